@@ -1,5 +1,5 @@
-//! Tests of a host's calls on images: making, opening, checking and saving them, objects and their values, readers, clients that
-//! run on an open image, the hosts that embed the library, and host memory that is refused.
+//! Tests of hosts that run clients: on an open image, on memory that is lent, and while host memory is refused; and the hosts that
+//! embed the library.
 #![tactic(auto)]
 
 #[cfg(test)]

@@ -1,9 +1,5 @@
 mod clients;
-mod door;
-mod hosts;
-mod images;
 mod lent;
 mod memory;
 mod mutations;
-mod readers;
 mod uses;

@@ -1,6 +1,6 @@
 use crate::tests::files::{Stored, counter_file, counter_files, follow, run};
 use std::test::Fail;
-use support_data::{counter, counter_where};
+use support_data::{counter, counter_where, equal, is_true};
 
 #[test]
 fn a_trace_changes_no_file(rt: HostRuntime) -> Result<(), Fail> {
@@ -19,7 +19,7 @@ $ segtool trace image client
      6    5  OUTI r1
 out "42\n""#,
     )?;
-    assert!(rt; files.get("image") == image.as_slice() && !files.has("saved"));
+    is_true(files.get("image") == image.as_slice() && !files.has("saved")).expect(&rt, "true");
     Ok(())
 }
 
@@ -84,13 +84,14 @@ fn help_has_an_example(rt: HostRuntime) {
     let mut files = Stored::new(rt.alloc());
     let words = ["segtool", "stat", "--help"];
     let printed = run(rt.alloc(), words.as_slice(), &mut files);
-    assert_eq!(rt; printed.status, 0);
-    assert!(rt;
+    equal(printed.status, 0).expect(&rt, "equal");
+    is_true(
         printed
             .out
             .as_slice()
-            .ends_with(b"Example:\n  segtool stat shop.image\n")
-    );
+            .ends_with(b"Example:\n  segtool stat shop.image\n"),
+    )
+    .expect(&rt, "true");
 }
 
 #[test]
@@ -98,12 +99,13 @@ fn the_version_is_followed_by_those_of_the_formats(rt: HostRuntime) {
     let mut files = Stored::new(rt.alloc());
     let words = ["segtool", "--version"];
     let printed = run(rt.alloc(), words.as_slice(), &mut files);
-    assert_eq!(rt; printed.status, 0);
-    assert!(rt; printed.out.as_slice().starts_with(b"segtool "));
-    assert!(rt;
+    equal(printed.status, 0).expect(&rt, "equal");
+    is_true(printed.out.as_slice().starts_with(b"segtool ")).expect(&rt, "true");
+    is_true(
         printed
             .out
             .as_slice()
-            .ends_with(b" (image versions 1 and 2, client versions 1 and 2)\n")
-    );
+            .ends_with(b" (image versions 1 and 2, client versions 1 and 2)\n"),
+    )
+    .expect(&rt, "true");
 }

@@ -3,7 +3,7 @@
 use crate::tests::files::{counter_files, is, run, run_into};
 use std::process::Abort;
 use std::test::Fail;
-use support_data::{Limited, counter_saved, front};
+use support_data::{Limited, counter_saved, equal, front, is_true};
 
 const RUN: [&str; 5] = ["segtool", "run", "image", "saved", "client"];
 
@@ -13,11 +13,11 @@ fn stops_after(rt: &(impl Abort + AllocGlobal), limit: usize) -> Result<(), Fail
     let mut files = counter_files(rt.alloc())?;
     let out = Limited::new(rt.alloc(), usize::MAX, limit);
     let printed = run_into(rt.alloc(), RUN.as_slice(), &mut files, out);
-    assert_eq!(rt; printed.status, 3);
-    assert_eq!(rt; printed.err.as_slice(), b"file -\n".as_slice());
-    assert_eq!(rt; printed.out.as_slice(), front(b"42\n", limit));
+    equal(printed.status, 3).expect(rt, "equal");
+    equal(printed.err.as_slice(), b"file -\n".as_slice()).expect(rt, "equal");
+    equal(printed.out.as_slice(), front(b"42\n", limit)).expect(rt, "equal");
     let saved = counter_saved(rt.alloc(), 42)?;
-    assert_eq!(rt; files.get("saved"), saved.as_slice());
+    equal(files.get("saved"), saved.as_slice()).expect(rt, "equal");
     Ok(())
 }
 
@@ -86,7 +86,7 @@ fn tells_of_a_failed_read(
     files.failing_read = read;
     let printed = run(rt.alloc(), RUN.as_slice(), &mut files);
     is(rt, &printed, 3, "", line);
-    assert!(rt; !files.has("saved"));
+    is_true(!files.has("saved")).expect(rt, "true");
     Ok(())
 }
 

@@ -1,7 +1,7 @@
 use crate::tests::files::{Stored, counter_files, follow, run};
 use std::alloc::Global;
 use std::test::Fail;
-use support_data::{INCREMENT_FILE, counter, counter_where, front};
+use support_data::{INCREMENT_FILE, counter, counter_where, equal, front, is_true};
 
 /// The counter's image, the increment client, the same client without its last byte, and another client that doesn't fit the
 /// image.
@@ -23,35 +23,6 @@ fn refuses_runs(alloc: Global, text: &str) -> Result<(), Fail> {
 }
 
 #[test]
-fn refuses_clients(rt: HostRuntime) -> Result<(), Fail> {
-    refuses_runs(
-        rt.alloc(),
-        "
-$1 segtool run image saved client cut --base 0
-client 1 fault 20 95
-$1 segtool run image saved text client --base 0
-client 0 fault 4 0",
-    )
-}
-
-/// In the last case the region ends before the segment, whose base is above 0.
-#[test]
-fn refuses_places_and_images(rt: HostRuntime) -> Result<(), Fail> {
-    refuses_runs(
-        rt.alloc(),
-        "
-$1 segtool run image saved client client --base 8
-fault 2
-$1 segtool run image saved client client --room 783
-fault 2
-$1 segtool run client saved client client --base 0
-fault 10
-$1 segtool run image saved client --room 784 --base 16
-fault 2",
-    )
-}
-
-#[test]
 fn refuses_files_and_words(rt: HostRuntime) -> Result<(), Fail> {
     let alloc = rt.alloc();
     let mut files = files(alloc)?;
@@ -68,11 +39,11 @@ $2 segtool upgrade image saved",
     )?;
     let words = ["segtool", "run", "image", "elsewhere", "client"];
     let printed = run(alloc, words.as_slice(), &mut files);
-    assert_eq!(rt; printed.status, 3);
-    assert_eq!(rt; printed.err.as_slice(), b"file elsewhere\n".as_slice());
+    equal(printed.status, 3).expect(&rt, "equal");
+    equal(printed.err.as_slice(), b"file elsewhere\n".as_slice()).expect(&rt, "equal");
     let printed = run(alloc, ["segtool", "--help"].as_slice(), &mut files);
-    assert_eq!(rt; printed.status, 0);
-    assert!(rt; !printed.out.is_empty() && printed.err.is_empty());
+    equal(printed.status, 0).expect(&rt, "equal");
+    is_true(!printed.out.is_empty() && printed.err.is_empty()).expect(&rt, "true");
     Ok(())
 }
 
@@ -96,62 +67,76 @@ fn finds(alloc: Global, cases: &str) -> Result<(), Fail> {
 }
 
 #[test]
-fn finds_faults_in_headers_and_types(rt: HostRuntime) -> Result<(), Fail> {
-    finds(
-        rt.alloc(),
-        "0=0x47454954 => fault 10 ; magic
+fn finds_cut_images(rt: HostRuntime) -> Result<(), Fail> {
+    let image = counter(rt.alloc())?;
+    for len in [0, 16, 64, 704, 720, 736, 783] {
+        check_says(rt.alloc(), front(image.as_slice(), len), "fault 10")?;
+    }
+    Ok(())
+}
+
+static FAULTS: [&str; 4] = [
+    // Headers and types.
+    "0=0x47454954 => fault 10 ; magic
         8=3 => fault 10 ; version
         12=50 => fault 10 ; size
         28=1 => fault 10 ; the word for the next number, which is 0 in version 1, and the bytes that are 0
         60=0x1000000 => fault 10
         64=9 => fault 3 0 ; a type of an unknown kind
         96=1 => fault 3 2 ; a used entry after an unused one",
-    )
-}
-
-#[test]
-fn finds_faults_in_blocks(rt: HostRuntime) -> Result<(), Fail> {
-    finds(
-        rt.alloc(),
-        "704=0x80000001 => fault 11 704 ; units too few
+    // Blocks.
+    "704=0x80000001 => fault 11 704 ; units too few
         704=0x80000006 => fault 11 704 ; and too many
         740=3 => fault 11 736 ; of the block before
         712=257 => fault 11 704 ; a tag without its type
         748=0 => fault 11 736 ; a link
         24=4 => fault 12 24 ; a free list that names a block",
-    )
-}
-
-#[test]
-fn finds_faults_in_names_and_owners(rt: HostRuntime) -> Result<(), Fail> {
-    finds(
-        rt.alloc(),
-        "36=0 => fault 13 32 ; no names beside a buffer
+    // Names and owners.
+    "36=0 => fault 13 32 ; no names beside a buffer
         756=0x00010000 => fault 13 752 ; an entry without values
         728=0x20 => fault 13 752 ; a name that isn't printable
         36=2 760=0xffffffd8 764=0x00010001 => fault 15 704 ; two entries that name one object
         32=1 36=0 => fault 16 704 ; no index for the blocks that are there",
-    )
-}
-
-#[test]
-fn finds_faults_in_pointers(rt: HostRuntime) -> Result<(), Fail> {
-    finds(
-        rt.alloc(),
-        "752=0 => fault 14 752 ; to itself
+    // Pointers.
+    "752=0 => fault 14 752 ; to itself
         752=0xffffffe4 => fault 14 752 ; between blocks
         32=688 => fault 14 32 ; to a block of another kind
         32=0x7fffffff => fault 14 32 ; past the end
         756=0x00010002 => fault 14 752 ; too small a block
         576=144 => fault 14 576",
-    )
-}
+];
 
 #[test]
-fn finds_cut_images(rt: HostRuntime) -> Result<(), Fail> {
-    let image = counter(rt.alloc())?;
-    for len in [0, 16, 64, 704, 720, 736, 783] {
-        check_says(rt.alloc(), front(image.as_slice(), len), "fault 10")?;
+fn finds_each_fault(rt: HostRuntime) -> Result<(), Fail> {
+    for text in &FAULTS {
+        finds(rt.alloc(), text)?;
+    }
+    Ok(())
+}
+
+static REFUSED: [&str; 2] = [
+    // Clients that are refused.
+    "
+$1 segtool run image saved client cut --base 0
+client 1 fault 20 95
+$1 segtool run image saved text client --base 0
+client 0 fault 4 0",
+    // Places and images that are refused. In the last case the region ends before the segment, whose base is above 0.
+    "
+$1 segtool run image saved client client --base 8
+fault 2
+$1 segtool run image saved client client --room 783
+fault 2
+$1 segtool run client saved client client --base 0
+fault 10
+$1 segtool run image saved client --room 784 --base 16
+fault 2",
+];
+
+#[test]
+fn refuses_each_run(rt: HostRuntime) -> Result<(), Fail> {
+    for text in &REFUSED {
+        refuses_runs(rt.alloc(), text)?;
     }
     Ok(())
 }

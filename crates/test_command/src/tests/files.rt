@@ -7,7 +7,7 @@ use std::alloc::{AllocError, Global};
 use std::process::Abort;
 use std::str;
 use std::test::Fail;
-use support_data::{INCREMENT, Limited, counter, front, statements};
+use support_data::{INCREMENT, Limited, counter, equal, front, statements};
 
 /// Files in memory. The read and the write with these numbers, counted from 1, fail. A command can write existing files and make
 /// a file `saved`.
@@ -179,9 +179,9 @@ impl Printed {
 
 /// Tests the output of a command, and its status.
 pub(crate) fn is(rt: &impl Abort, printed: &Printed, status: u8, out: &str, err: &str) {
-    assert_eq!(rt; printed.out.as_slice(), out.as_bytes());
-    assert_eq!(rt; printed.err.as_slice(), err.as_bytes());
-    assert_eq!(rt; printed.status, status);
+    equal(printed.out.as_slice(), out.as_bytes()).expect(rt, "equal");
+    equal(printed.err.as_slice(), err.as_bytes()).expect(rt, "equal");
+    equal(printed.status, status).expect(rt, "equal");
 }
 
 /// Runs a command line.

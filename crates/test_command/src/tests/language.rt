@@ -1,14 +1,14 @@
 use crate::tests::files::{Stored, counter_file, follow};
 use std::alloc::Global;
 use std::test::Fail;
-use support_data::{INCREMENT, INCREMENT_FILE};
+use support_data::{INCREMENT, INCREMENT_FILE, equal};
 
 #[test]
 fn assembles_and_prints(rt: HostRuntime) -> Result<(), Fail> {
     let mut files = Stored::new(rt.alloc());
     files.add("text", INCREMENT.as_bytes())?;
     follow(rt.alloc(), &mut files, "\n$ segtool asm text saved")?;
-    assert_eq!(rt; files.get("saved"), INCREMENT_FILE.as_slice());
+    equal(files.get("saved"), INCREMENT_FILE.as_slice()).expect(&rt, "equal");
     let text = format!(in rt.alloc(); "\n$ segtool print saved\n{INCREMENT}")?;
     follow(rt.alloc(), &mut files, text.trim_end())
 }

@@ -31,11 +31,100 @@ fn refuses(alloc: Global, text: &str) -> Result<(), Fail> {
     Ok(())
 }
 
+/// What a command writes.
+#[derive(Clone, Copy)]
+enum Written {
+    /// The image after the increment client.
+    Counted,
+    /// An image of 1024 bytes.
+    Image,
+    /// The increment client.
+    Client,
+    Picture,
+}
+
+/// Whether a file has what a command should write.
+fn has(alloc: Global, bytes: &[u8], wanted: Written) -> Result<bool, Fail> {
+    Ok(match wanted {
+        Written::Counted => bytes == counter_saved(alloc, 42)?.as_slice(),
+        Written::Image => bytes.len() == 1024,
+        Written::Client => bytes == INCREMENT_FILE.as_slice(),
+        Written::Picture => bytes.starts_with(b"<svg "),
+    })
+}
+
+/// Tests that a command writes this to a file, and no other file.
+fn writes(alloc: Global, text: &str, file: &str, wanted: Written) -> Result<(), Fail> {
+    let mut files = files(alloc)?;
+    follow(alloc, &mut files, text)?;
+    if files.writes != 1 || !has(alloc, files.get(file), wanted)? {
+        return Err(Fail::from("not written"));
+    }
+    Ok(())
+}
+
+// Commands, and the file that each writes: files of the kind that it makes, also under another name, empty files, and with `--force`
+// any file.
+static WRITTEN: [(&str, &str, Written); 14] = [
+    (
+        "$ segtool run image image client\n42",
+        "image",
+        Written::Counted,
+    ),
+    (
+        "$ segtool run image mirror client\n42",
+        "image",
+        Written::Counted,
+    ),
+    (
+        "$ segtool run image damaged client\n42",
+        "damaged",
+        Written::Counted,
+    ),
+    (
+        "$ segtool run image empty client\n42",
+        "empty",
+        Written::Counted,
+    ),
+    (
+        "$ segtool run image notes client --force\n42",
+        "notes",
+        Written::Counted,
+    ),
+    ("$ segtool new saved 1024 seq flat", "saved", Written::Image),
+    ("$ segtool new empty 1024 seq flat", "empty", Written::Image),
+    (
+        "$ segtool new notes 1024 seq flat --force",
+        "notes",
+        Written::Image,
+    ),
+    ("$ segtool asm text alias", "client", Written::Client),
+    ("$ segtool asm text empty", "empty", Written::Client),
+    ("$ segtool asm text notes --force", "notes", Written::Client),
+    (
+        "$ segtool map image --svg picture",
+        "picture",
+        Written::Picture,
+    ),
+    ("$ segtool map image --svg empty", "empty", Written::Picture),
+    (
+        "$ segtool map image --svg notes --force",
+        "notes",
+        Written::Picture,
+    ),
+];
+
 #[test]
-fn a_run_spares_its_clients(rt: HostRuntime) -> Result<(), Fail> {
-    refuses(
-        rt.alloc(),
-        "
+fn commands_write_over_files(rt: HostRuntime) -> Result<(), Fail> {
+    for (text, file, wanted) in &WRITTEN {
+        writes(rt.alloc(), text, file, *wanted)?;
+    }
+    Ok(())
+}
+
+static SPARED: [&str; 9] = [
+    // A run spares its clients.
+    "
 $3 segtool run image client client --explain
 file client
 `client` is a file that the command reads, under this name or another, so it wasn't written; name another file
@@ -45,29 +134,17 @@ $3 segtool run image alias client
 file alias
 $3 segtool run image client text alias
 file client",
-    )
-}
-
-#[test]
-fn a_run_spares_its_input(rt: HostRuntime) -> Result<(), Fail> {
-    refuses(
-        rt.alloc(),
-        "
+    // A run spares its input.
+    "
 $3 segtool run image saved client --input saved
 file saved
 $3 segtool run image saved client --input saved --force
 file saved
 $3 segtool run image alias text --input client
 file alias",
-    )
-}
-
-/// The last two cases have a client in the place of `OUT`, as when `OUT` was forgotten.
-#[test]
-fn a_run_spares_what_is_no_image(rt: HostRuntime) -> Result<(), Fail> {
-    refuses(
-        rt.alloc(),
-        "
+    // A run spares what is no image.
+    // The last two cases have a client in the place of `OUT`, as when `OUT` was forgotten.
+    "
 $3 segtool run image notes client --explain
 file notes
 `notes` isn't empty and isn't an image, which begins with `SEGIMAGE`, so nothing was written over it; name another file, or add --force
@@ -75,15 +152,9 @@ $3 segtool run image client text
 file client
 $3 segtool run image alias text
 file alias",
-    )
-}
-
-/// The file to write is tested after the image is read and before the clients are. The image is checked last.
-#[test]
-fn a_run_looks_at_files_in_order(rt: HostRuntime) -> Result<(), Fail> {
-    refuses(
-        rt.alloc(),
-        "
+    // A run looks at files in order.
+    // The file to write is tested after the image is read and before the clients are. The image is checked last.
+    "
 $3 segtool run none notes client
 file none
 $3 segtool run image notes none
@@ -94,14 +165,8 @@ $1 segtool run damaged damaged client
 fault 10
 $1 segtool run notes notes client
 fault 10",
-    )
-}
-
-#[test]
-fn a_new_image_spares_what_is_no_image(rt: HostRuntime) -> Result<(), Fail> {
-    refuses(
-        rt.alloc(),
-        "
+    // A new image spares what is no image.
+    "
 $3 segtool new notes 1024 seq flat --explain
 file notes
 `notes` isn't empty and isn't an image, which begins with `SEGIMAGE`, so nothing was written over it; name another file, or add --force
@@ -111,14 +176,8 @@ $3 segtool new notes 0 seq flat
 file notes
 $1 segtool new notes 0 seq flat --force
 fault 5",
-    )
-}
-
-#[test]
-fn an_assembly_spares_its_text(rt: HostRuntime) -> Result<(), Fail> {
-    refuses(
-        rt.alloc(),
-        "
+    // An assembly spares its text.
+    "
 $3 segtool asm text text --explain
 file text
 `text` is a file that the command reads, under this name or another, so it wasn't written; name another file
@@ -126,14 +185,8 @@ $3 segtool asm text text --force
 file text
 $3 segtool asm client alias
 file alias",
-    )
-}
-
-#[test]
-fn an_assembly_spares_what_is_no_client(rt: HostRuntime) -> Result<(), Fail> {
-    refuses(
-        rt.alloc(),
-        "
+    // An assembly spares what is no client.
+    "
 $3 segtool asm text image --explain
 file image
 `image` isn't empty and isn't a client, which begins with `SEGC`, so nothing was written over it; name another file, or add --force
@@ -143,14 +196,8 @@ $3 segtool asm wrong notes
 file notes
 $1 segtool asm wrong notes --force
 fault 21 1",
-    )
-}
-
-#[test]
-fn a_picture_spares_its_image(rt: HostRuntime) -> Result<(), Fail> {
-    refuses(
-        rt.alloc(),
-        "
+    // A picture spares its image.
+    "
 $3 segtool map image --svg image --explain
 file image
 `image` is a file that the command reads, under this name or another, so it wasn't written; name another file
@@ -158,14 +205,8 @@ $3 segtool map image --svg image --force
 file image
 $3 segtool map image --svg mirror --force
 file mirror",
-    )
-}
-
-#[test]
-fn a_picture_spares_what_is_no_picture(rt: HostRuntime) -> Result<(), Fail> {
-    refuses(
-        rt.alloc(),
-        "
+    // A picture spares what is no picture.
+    "
 $3 segtool map image --svg saved --explain
 file saved
 `saved` isn't empty and isn't an SVG picture, which begins with `<svg `, so nothing was written over it; name another file, or add --force
@@ -175,88 +216,12 @@ $3 segtool map damaged --svg notes
 file notes
 $1 segtool map damaged --svg notes --force
 fault 10",
-    )
-}
-
-/// Tests that a command saves the result of the increment client in this file.
-fn saves(alloc: Global, text: &str, file: &str) -> Result<(), Fail> {
-    let mut files = files(alloc)?;
-    follow(alloc, &mut files, text)?;
-    if files.get(file) != counter_saved(alloc, 42)?.as_slice() {
-        return Err(Fail::from("not saved"));
-    }
-    Ok(())
-}
-
-/// The image itself, also under another name, another image, an empty file, and with `--force` any file.
-#[test]
-fn a_run_writes_over_images(rt: HostRuntime) -> Result<(), Fail> {
-    let alloc = rt.alloc();
-    saves(alloc, "\n$ segtool run image image client\n42", "image")?;
-    saves(alloc, "\n$ segtool run image mirror client\n42", "image")?;
-    saves(alloc, "\n$ segtool run image damaged client\n42", "damaged")?;
-    saves(alloc, "\n$ segtool run image empty client\n42", "empty")?;
-    saves(
-        alloc,
-        "\n$ segtool run image notes client --force\n42",
-        "notes",
-    )
-}
-
-/// Tests that a command writes an image of 1024 bytes to this file.
-fn makes(alloc: Global, text: &str, file: &str) -> Result<(), Fail> {
-    let mut files = files(alloc)?;
-    follow(alloc, &mut files, text)?;
-    if files.get(file).len() != 1024 {
-        return Err(Fail::from("not made"));
-    }
-    Ok(())
-}
+];
 
 #[test]
-fn a_new_image_is_written_over_images(rt: HostRuntime) -> Result<(), Fail> {
-    let alloc = rt.alloc();
-    makes(alloc, "\n$ segtool new saved 1024 seq flat", "saved")?;
-    makes(alloc, "\n$ segtool new empty 1024 seq flat", "empty")?;
-    makes(
-        alloc,
-        "\n$ segtool new notes 1024 seq flat --force",
-        "notes",
-    )
-}
-
-/// Tests that a command writes the increment client to this file.
-fn assembles(alloc: Global, text: &str, file: &str) -> Result<(), Fail> {
-    let mut files = files(alloc)?;
-    follow(alloc, &mut files, text)?;
-    if files.writes != 1 || files.get(file) != INCREMENT_FILE.as_slice() {
-        return Err(Fail::from("not written"));
+fn commands_spare_files(rt: HostRuntime) -> Result<(), Fail> {
+    for text in &SPARED {
+        refuses(rt.alloc(), text)?;
     }
     Ok(())
-}
-
-#[test]
-fn an_assembly_writes_over_clients(rt: HostRuntime) -> Result<(), Fail> {
-    let alloc = rt.alloc();
-    assembles(alloc, "\n$ segtool asm text alias", "client")?;
-    assembles(alloc, "\n$ segtool asm text empty", "empty")?;
-    assembles(alloc, "\n$ segtool asm text notes --force", "notes")
-}
-
-/// Tests that a command writes a picture to this file.
-fn draws(alloc: Global, text: &str, file: &str) -> Result<(), Fail> {
-    let mut files = files(alloc)?;
-    follow(alloc, &mut files, text)?;
-    if files.writes != 1 || !files.get(file).starts_with(b"<svg ") {
-        return Err(Fail::from("not drawn"));
-    }
-    Ok(())
-}
-
-#[test]
-fn a_picture_is_written_over_pictures(rt: HostRuntime) -> Result<(), Fail> {
-    let alloc = rt.alloc();
-    draws(alloc, "\n$ segtool map image --svg picture", "picture")?;
-    draws(alloc, "\n$ segtool map image --svg empty", "empty")?;
-    draws(alloc, "\n$ segtool map image --svg notes --force", "notes")
 }

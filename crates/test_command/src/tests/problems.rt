@@ -38,66 +38,6 @@ file none/image
     )
 }
 
-#[test]
-fn a_folder(rt: HostRuntime) -> Result<(), Fail> {
-    tells(
-        rt.alloc(),
-        FileProblem::Folder,
-        "
-$3 segtool stat image --explain
-file image
-`image` is a folder, and should be a file",
-    )
-}
-
-#[test]
-fn a_file_that_may_not_be_read(rt: HostRuntime) -> Result<(), Fail> {
-    tells(
-        rt.alloc(),
-        FileProblem::Unreadable,
-        "
-$3 segtool stat image --explain
-file image
-`image` may not be read: its permissions or those of its folders don't allow it",
-    )
-}
-
-#[test]
-fn a_file_that_may_not_be_written(rt: HostRuntime) -> Result<(), Fail> {
-    tells(
-        rt.alloc(),
-        FileProblem::Unwritable,
-        "
-$3 segtool new image 1024 seq flat --force --explain
-file image
-`image` may not be written: its folder should allow reading and writing, since a new file is made there and renamed; a device or a pipe should allow writing",
-    )
-}
-
-#[test]
-fn a_full_disk(rt: HostRuntime) -> Result<(), Fail> {
-    tells(
-        rt.alloc(),
-        FileProblem::NoSpace,
-        "
-$3 segtool new image 1024 seq flat --force --explain
-file image
-`image` couldn't be written whole: the disk is full, or a limit on the size of files is reached",
-    )
-}
-
-#[test]
-fn a_system_that_fails(rt: HostRuntime) -> Result<(), Fail> {
-    tells(
-        rt.alloc(),
-        FileProblem::System,
-        "
-$3 segtool stat image --explain
-file image
-`image` couldn't be read or written: the system failed for a rare reason, such as a broken disk or links in a circle",
-    )
-}
-
 /// A client with one byte more than the limit, and one with exactly as many.
 #[test]
 fn a_file_that_is_too_long(rt: HostRuntime) -> Result<(), Fail> {
@@ -115,4 +55,55 @@ file long
 $1 segtool verify image longest
 fault 20 0",
     )
+}
+
+static PROBLEMS: [(FileProblem, &str); 5] = [
+    // A folder.
+    (
+        FileProblem::Folder,
+        "
+$3 segtool stat image --explain
+file image
+`image` is a folder, and should be a file",
+    ),
+    // A file that may not be read.
+    (
+        FileProblem::Unreadable,
+        "
+$3 segtool stat image --explain
+file image
+`image` may not be read: its permissions or those of its folders don't allow it",
+    ),
+    // A file that may not be written.
+    (
+        FileProblem::Unwritable,
+        "
+$3 segtool new image 1024 seq flat --force --explain
+file image
+`image` may not be written: its folder should allow reading and writing, since a new file is made there and renamed; a device or a pipe should allow writing",
+    ),
+    // A full disk.
+    (
+        FileProblem::NoSpace,
+        "
+$3 segtool new image 1024 seq flat --force --explain
+file image
+`image` couldn't be written whole: the disk is full, or a limit on the size of files is reached",
+    ),
+    // A system that fails.
+    (
+        FileProblem::System,
+        "
+$3 segtool stat image --explain
+file image
+`image` couldn't be read or written: the system failed for a rare reason, such as a broken disk or links in a circle",
+    ),
+];
+
+#[test]
+fn files_that_fail(rt: HostRuntime) -> Result<(), Fail> {
+    for (problem, text) in &PROBLEMS {
+        tells(rt.alloc(), *problem, text)?;
+    }
+    Ok(())
 }

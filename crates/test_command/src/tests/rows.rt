@@ -1,14 +1,14 @@
 use crate::tests::files::{counter_files, follow};
 use std::process::Abort;
 use std::test::Fail;
-use support_data::counter_saved;
+use support_data::{counter_saved, equal, is_true};
 
 /// Tests a command that runs the increment client on the counter's image, at a base of a region.
 fn increments(rt: &(impl Abort + AllocGlobal), text: &str) -> Result<(), Fail> {
     let mut files = counter_files(rt.alloc())?;
     follow(rt.alloc(), &mut files, text)?;
     let saved = counter_saved(rt.alloc(), 42)?;
-    assert_eq!(rt; files.get("saved"), saved.as_slice());
+    equal(files.get("saved"), saved.as_slice()).expect(rt, "equal");
     Ok(())
 }
 
@@ -41,7 +41,7 @@ $ segtool run image saved client client --input input
 43",
     )?;
     let saved = counter_saved(rt.alloc(), 43)?;
-    assert_eq!(rt; files.get("saved"), saved.as_slice());
+    equal(files.get("saved"), saved.as_slice()).expect(&rt, "equal");
     Ok(())
 }
 
@@ -49,6 +49,6 @@ $ segtool run image saved client client --input input
 fn checks_an_image(rt: HostRuntime) -> Result<(), Fail> {
     let mut files = counter_files(rt.alloc())?;
     follow(rt.alloc(), &mut files, "\n$ segtool check image\nok")?;
-    assert!(rt; !files.has("saved"));
+    is_true(!files.has("saved")).expect(&rt, "true");
     Ok(())
 }

@@ -1,6 +1,6 @@
 use crate::tests::files::{Stored, counter_file, follow, is, run, run_into};
 use std::test::Fail;
-use support_data::{Limited, counter_saved, counter_where};
+use support_data::{Limited, counter_saved, counter_where, equal, is_true};
 
 /// A new image on each allocator and index consists of free memory.
 #[test]
@@ -44,7 +44,7 @@ $2 segtool new saved 1024 seq list
 $2 segtool new saved 4294967296 seq flat
 $2 segtool new saved -16 seq flat",
     )?;
-    assert!(rt; !files.has("saved"));
+    is_true(!files.has("saved")).expect(&rt, "true");
     Ok(())
 }
 
@@ -111,12 +111,13 @@ largest 32
 named 1
 unique 0",
     )?;
-    assert_eq!(rt; files.get("saved").len(), 816);
+    equal(files.get("saved").len(), 816).expect(&rt, "equal");
     follow(rt.alloc(), &mut files, "\n$ segtool shrink saved\nsize 784")?;
-    assert_eq!(rt;
+    equal(
         files.get("saved"),
-        counter_saved(rt.alloc(), 41)?.as_slice()
-    );
+        counter_saved(rt.alloc(), 41)?.as_slice(),
+    )
+    .expect(&rt, "equal");
     Ok(())
 }
 
@@ -130,10 +131,11 @@ fn upgrades(rt: HostRuntime) -> Result<(), Fail> {
             &mut files,
             "\n$ segtool upgrade saved\nversion 2",
         )?;
-        assert_eq!(rt;
+        equal(
             files.get("saved"),
-            counter_saved(rt.alloc(), 41)?.as_slice()
-        );
+            counter_saved(rt.alloc(), 41)?.as_slice(),
+        )
+        .expect(&rt, "equal");
     }
     Ok(())
 }
@@ -149,7 +151,7 @@ fn upgrades_no_faulty_image(rt: HostRuntime) -> Result<(), Fail> {
         &mut files,
         "\n$1 segtool upgrade saved\nfault 10",
     )?;
-    assert_eq!(rt; files.get("saved"), image.as_slice());
+    equal(files.get("saved"), image.as_slice()).expect(&rt, "equal");
     Ok(())
 }
 
@@ -172,7 +174,7 @@ fault 5
 $1 segtool grow saved 1073741824
 fault 5",
     )?;
-    assert_eq!(rt; files.get("saved").len(), 800);
+    equal(files.get("saved").len(), 800).expect(&rt, "equal");
     Ok(())
 }
 
@@ -184,10 +186,10 @@ fn rewrites_where_the_output_fails(rt: HostRuntime) -> Result<(), Fail> {
     let out = Limited::new(rt.alloc(), 3, 3);
     let printed = run_into(rt.alloc(), &words, &mut files, out);
     is(&rt, &printed, 3, "siz", "file -\n");
-    assert_eq!(rt; files.get("saved").len(), 816);
+    equal(files.get("saved").len(), 816).expect(&rt, "equal");
     files.failing_write = 2;
     let printed = run(rt.alloc(), &["segtool", "shrink", "saved"], &mut files);
     is(&rt, &printed, 3, "size 784\n", "file saved\n");
-    assert_eq!(rt; files.get("saved").len(), 816);
+    equal(files.get("saved").len(), 816).expect(&rt, "equal");
     Ok(())
 }

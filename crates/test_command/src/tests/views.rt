@@ -1,7 +1,7 @@
 use crate::tests::files::{FROZEN_PAIR, Stored, counter_file, follow};
 use std::alloc::Global;
 use std::test::Fail;
-use support_data::{counter_where, sharing, write_words};
+use support_data::{counter_where, equal, is_true, sharing, write_words};
 
 /// Makes an object with a value of each type, three numbers, and a unique object.
 const EVERY_TYPE: &str = "type i64
@@ -402,7 +402,7 @@ fault 10
 $1 segtool map image --svg saved
 fault 10",
     )?;
-    assert!(rt; !files.has("saved"));
+    is_true(!files.has("saved")).expect(&rt, "true");
     Ok(())
 }
 
@@ -443,6 +443,6 @@ const PICTURE: &str =
 fn draws_a_picture(rt: HostRuntime) -> Result<(), Fail> {
     let mut files = counter_file(rt.alloc(), "image")?;
     follow(rt.alloc(), &mut files, "\n$ segtool map image --svg saved")?;
-    assert_eq!(rt; files.get("saved"), PICTURE.as_bytes());
+    equal(files.get("saved"), PICTURE.as_bytes()).expect(&rt, "equal");
     Ok(())
 }

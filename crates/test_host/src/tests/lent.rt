@@ -4,15 +4,14 @@ ghost use Rattle.std.specs.Prelude.{◌≡◌, ◌≤◌, length};
 ghost use Rattle.lezgauri.specs.Homes.{home_of};
 ghost use Rattle.lezgauri.specs.Images.{segment_of};
 
-use crate::tests::door::Host;
 use lezgauri::{
     AllocatorKind, Error, Fault, Image, ImageRead, IndexKind, Lodged, Through, Type, lend, prepare,
-    run, verify,
+    run, type_table, verify,
 };
 use std::alloc::Global;
 use std::process::Abort;
 use std::test::Fail;
-use support_data::{INCREMENT_FILE, Limited};
+use support_data::{INCREMENT_FILE, Limited, equal};
 
 /// Adds 1 to the number `x` of an image, runs the client, which adds 1 too, and returns the number.
 fn count(alloc: Global, image: &mut Image<Lodged>) -> Result<i64, Error>
@@ -48,27 +47,35 @@ fn count_in(alloc: Global, memory: &mut [u8], used: usize) -> Result<i64, Error>
     )
 }
 
-/// Tests that the image in lent memory changes in place, and that 0 is after it.
-fn counts(rt: &(impl Abort + AllocGlobal), allocator: AllocatorKind) -> Result<(), Fail> {
-    let mut image = Host::create(rt.alloc(), 1024, allocator, IndexKind::Flat)?;
-    image.add_types(&[Type::I64])?;
+/// An image of 1024 bytes with the number `x`, which is 0, and 1024 bytes after it, which are 7.
+fn memory_with(alloc: Global, allocator: AllocatorKind) -> Result<Vec<u8>, Error> {
+    let mut image = Image::create(alloc, 1024, allocator, IndexKind::Flat)?;
+    image.add_types(&type_table(&[Type::I64])?)?;
     image.construct(b"x", 0, 1)?;
     let mut memory = image.into_bytes();
     memory.resize(2048, 7)?;
-    let lent = memory.as_mut_slice();
-    assert_eq!(rt; lent.len(), 2048);
-    assert_eq!(rt; count_in(rt.alloc(), lent, 1024), Ok(2));
-    assert_eq!(rt; count_in(rt.alloc(), lent, 1024), Ok(4));
-    assert_eq!(rt;
-        count_in(rt.alloc(), lent, 1023),
-        Err(Error::from(Fault::BadHeader))
-    );
-    assert_eq!(rt; lent.last(), Some(&0));
-    Ok(())
+    Ok(memory)
+}
+
+/// Tests that the image in lent memory changes in place, and that 0 is after it.
+fn counts(rt: &(impl Abort + AllocGlobal), lent: &mut [u8]) {
+    assert!(rt; lent.len() == 2048);
+    equal(count_in(rt.alloc(), lent, 1024), Ok(2)).expect(rt, "first");
+    equal(count_in(rt.alloc(), lent, 1024), Ok(4)).expect(rt, "second");
+    let cut = Err(Error::from(Fault::BadHeader));
+    equal(count_in(rt.alloc(), lent, 1023), cut).expect(rt, "cut");
+    equal(lent.last(), Some(&0)).expect(rt, "after");
 }
 
 #[test]
 fn an_image_is_opened_in_lent_memory(rt: HostRuntime) -> Result<(), Fail> {
-    counts(&rt, AllocatorKind::Seq)?;
-    counts(&rt, AllocatorKind::Best)
+    counts(
+        &rt,
+        memory_with(rt.alloc(), AllocatorKind::Seq)?.as_mut_slice(),
+    );
+    counts(
+        &rt,
+        memory_with(rt.alloc(), AllocatorKind::Best)?.as_mut_slice(),
+    );
+    Ok(())
 }

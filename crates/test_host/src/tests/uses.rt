@@ -2,10 +2,11 @@
 
 use lezgauri::{Code, Error, Fault, Through};
 use lezgauri_uses::{Cache, Settings, count, new_counter, read_settings, write_settings};
+use std::alloc::Global;
 use std::fmt::InlineText;
 use std::process::Abort;
 use std::test::Fail;
-use support_data::{COUNT, Limited, SETTINGS};
+use support_data::{COUNT, Limited, SETTINGS, equal, is_true};
 use support_runs::client;
 
 /// The output of a client in this many runs on an image, and the image afterwards.
@@ -25,15 +26,15 @@ fn counted(
 #[test]
 fn a_counter_counts(rt: HostRuntime) -> Result<(), Fail> {
     let (printed, image) = counted(&rt, new_counter(rt.alloc())?, COUNT, 3)?;
-    assert_eq!(rt; printed.as_slice(), b"1\n2\n3\n".as_slice());
+    equal(printed.as_slice(), b"1\n2\n3\n".as_slice()).expect(&rt, "equal");
     let (printed, _image) = counted(&rt, image, COUNT, 1)?;
-    assert_eq!(rt; printed.as_slice(), b"4\n".as_slice());
+    equal(printed.as_slice(), b"4\n".as_slice()).expect(&rt, "equal");
     Ok(())
 }
 
 fn prints(rt: &impl Abort, error: Error, line: &str) {
     let printed = InlineText::<64>::of(error);
-    assert_eq!(rt; printed.as_str(), line);
+    equal(printed.as_str(), line).expect(rt, "equal");
 }
 
 #[test]
@@ -54,7 +55,7 @@ fn errors_are_printed(rt: HostRuntime) {
 fn no_image_is_counted(rt: HostRuntime) {
     let mut out = Through::new(Limited::unlimited(rt.alloc()));
     let none = count(rt.alloc(), Vec::new(rt.alloc()), b"", 1, &mut out);
-    assert_eq!(rt; none.err(), Some(Error::Fault(Fault::BadHeader)));
+    equal(none.err(), Some(Error::Fault(Fault::BadHeader))).expect(&rt, "equal");
 }
 
 /// A host reads what a host wrote, and a client prints it.
@@ -67,43 +68,59 @@ fn settings_are_shared(rt: HostRuntime) -> Result<(), Fail> {
     };
     let image = write_settings(rt.alloc(), &settings)?;
     let (printed, image) = counted(&rt, image, SETTINGS, 1)?;
-    assert_eq!(rt;
+    equal(
         printed.as_slice(),
-        b"1\n640\n2\n8080\ngood day\n".as_slice()
-    );
+        b"1\n640\n2\n8080\ngood day\n".as_slice(),
+    )
+    .expect(&rt, "equal");
     let read = read_settings(rt.alloc(), image)?;
-    assert!(rt; read.limit == 640 && read.port == 8080);
-    assert_eq!(rt; read.greeting.as_slice(), b"good day".as_slice());
+    is_true(read.limit == 640 && read.port == 8080).expect(&rt, "true");
+    equal(read.greeting.as_slice(), b"good day".as_slice()).expect(&rt, "equal");
     Ok(())
 }
 
-/// A cache of two keys drops the first key for the third, and has the other two after it is opened again.
-#[test]
-fn a_cache_forgets_what_came_first(rt: HostRuntime) -> Result<(), Fail> {
-    let mut cache = Cache::new(rt.alloc(), 2)?;
-    for (key, value) in [(1, 1), (2, 4), (3, 9)] {
-        cache.enter(key, value)?;
-    }
-    let again = Cache::open(rt.alloc(), cache.save(rt.alloc())?, 2)?;
-    assert_eq!(rt; again.get(1), Err(Code::Absent));
-    assert_eq!(rt; again.get(2), Ok(4));
-    assert_eq!(rt; again.get(3), Ok(9));
-    Ok(())
+/// A cache of at most `most` keys in which 1, 2 and 3 were entered, in this order, with their squares.
+fn squares(alloc: Global, most: u32) -> Result<Cache, Error> {
+    let mut cache = Cache::new(alloc, most)?;
+    enter_squares(&mut cache)?;
+    Ok(cache)
 }
 
-/// A cache of no keys keeps nothing. One that is opened with a lower limit drops the oldest keys for the next one.
+fn enter_squares(cache: &mut Cache) -> Result<(), Error> {
+    cache.enter(1, 1)?;
+    cache.enter(2, 4)?;
+    cache.enter(3, 9)
+}
+
+/// That cache, saved and opened again with a limit.
+fn reopened(alloc: Global, most: u32, limit: u32) -> Result<Cache, Error> {
+    Cache::open(alloc, squares(alloc, most)?.save(alloc)?, limit)
+}
+
+/// Tests that a cache has exactly these of the keys 1 to 4.
+fn has(rt: &impl Abort, cache: &Cache, keys: [bool; 4]) {
+    let found = [
+        cache.get(1) == Ok(1),
+        cache.get(2) == Ok(4),
+        cache.get(3) == Ok(9),
+        cache.get(4) == Ok(16),
+    ];
+    equal(found, keys).expect(rt, "keys");
+    equal(cache.get(5), Err(Code::Absent)).expect(rt, "no key");
+}
+
+/// A cache of two keys drops the first key for the third, and has the other two after it is opened again. One that is opened with a
+/// lower limit drops the oldest keys for the next one. A cache of no keys keeps nothing.
 #[test]
 fn a_cache_keeps_to_its_limit(rt: HostRuntime) -> Result<(), Fail> {
-    let mut none = Cache::new(rt.alloc(), 0)?;
-    none.enter(1, 1)?;
-    assert_eq!(rt; none.get(1), Err(Code::Absent));
-    let mut cache = Cache::new(rt.alloc(), 3)?;
-    for (key, value) in [(1, 1), (2, 4), (3, 9)] {
-        cache.enter(key, value)?;
-    }
-    let mut smaller = Cache::open(rt.alloc(), cache.save(rt.alloc())?, 1)?;
+    has(
+        &rt,
+        &reopened(rt.alloc(), 2, 2)?,
+        [false, true, true, false],
+    );
+    let mut smaller = reopened(rt.alloc(), 3, 1)?;
     smaller.enter(4, 16)?;
-    assert_eq!(rt; smaller.get(3), Err(Code::Absent));
-    assert_eq!(rt; smaller.get(4), Ok(16));
+    has(&rt, &smaller, [false, false, false, true]);
+    has(&rt, &squares(rt.alloc(), 0)?, [false, false, false, false]);
     Ok(())
 }

@@ -1,4 +1,4 @@
-use crate::tests::plays::{plays, plays_with};
+use crate::tests::plays::{Play, play_each};
 use std::test::Fail;
 use support_runs::{BEST_FLAT, KINDS, SEQ_FLAT};
 
@@ -64,20 +64,6 @@ pub(crate) const PRINT_TEXTS: &str = "type str
     ELSE
     END";
 
-/// The fifth push has no room for 8 items, and gets room for fewer. The last text gets the block of the old buffer.
-#[test]
-fn fifth_push_takes_its_limit(rt: HostRuntime) -> Result<(), Fail> {
-    plays_with(
-        rt.alloc(),
-        &[SEQ_FLAT, BEST_FLAT],
-        &[("make", FIVE_TEXTS), ("print", PRINT_TEXTS)],
-        r"$ seq on 1024 make print; free 0 named 1
-        abbcccddddeeeee\
-        $ best on 1024 make print
-        abbcccddddeeeee\",
-    )
-}
-
 /// Assigns a text of 5 bytes, appends 20, and prints both lengths and the text.
 const GROW_TEXT: &str = "type str
     name s
@@ -123,83 +109,6 @@ const EMPTY_TEXT: &str = "type str
       SHRINK r0
     ELSE
     END";
-
-/// A text of 5 bytes has a buffer of 2 units, and one of 25 bytes a buffer of 3 in the same place. Shrinking frees the units that
-/// aren't needed.
-#[test]
-fn texts_grow_and_shrink_in_place(rt: HostRuntime) -> Result<(), Fail> {
-    plays_with(
-        rt.alloc(),
-        &[SEQ_FLAT],
-        &[
-            ("grow", GROW_TEXT),
-            ("shrink", SHRINK_TEXT),
-            ("empty", EMPTY_TEXT),
-        ],
-        r"$ on 1024 grow; free 192 named 1
-        5
-        25
-        helloabcdefghijklmnopqrst\
-        $ then shrink; free 208 named 1
-        $ then empty; free 240 named 1
-        0
-        6",
-    )
-}
-
-/// The bytes of a text, one by one.
-#[test]
-fn texts_of_bytes(rt: HostRuntime) -> Result<(), Fail> {
-    plays(
-        rt.alloc(),
-        &KINDS,
-        "$ client bytes
-            type str
-            name s
-            CONST r1 255
-            CONST r2 256
-            CONST r3 0
-            CONST r4 -1
-            CONST r5 1
-            FINDOR r0 - t0 k0
-              ADDB r6 r0 r1
-                OUTI r6
-              ELSE
-              END
-              ADDB r6 r0 r2
-              ELSE
-                OUTI r6
-              END
-              ADDB r6 r0 r4
-              ELSE
-                OUTI r6
-              END
-              AT r6 r0 r3
-                OUTI r6
-              ELSE
-              END
-              AT r6 r0 r5
-              ELSE
-                OUTI r6
-              END
-              AT r6 r0 r4
-              ELSE
-                OUTI r6
-              END
-              LEN r6 r0
-              OUTI r6
-            ELSE
-            END
-        $ on 1024 bytes
-        1
-        5
-        5
-        255
-        5
-        5
-        1",
-    )
-}
 
 /// Pushes three numbers at the back of a list, and one at its front.
 const PUSH_NUMBERS: &str = "type i64
@@ -262,24 +171,104 @@ const KILL_LIST: &str = "type i64
     name l
     KILL r0 - t1 k0";
 
-/// Each node of a list of numbers has 2 units.
-#[test]
-fn lists_of_numbers(rt: HostRuntime) -> Result<(), Fail> {
-    plays_with(
-        rt.alloc(),
-        &[SEQ_FLAT],
-        &[
+static PLAYS: [Play; 4] = [
+    // The fifth push has no room for 8 items, and gets room for fewer. The last text gets the block of the old buffer.
+    Play {
+        kinds: &[SEQ_FLAT, BEST_FLAT],
+        clients: &[("make", FIVE_TEXTS), ("print", PRINT_TEXTS)],
+        text: r"$ seq on 1024 make print; free 0 named 1
+        abbcccddddeeeee\
+        $ best on 1024 make print
+        abbcccddddeeeee\",
+    },
+    // A text of 5 bytes has a buffer of 2 units, and one of 25 bytes a buffer of 3 in the same place. Shrinking frees the units
+    // that aren't needed.
+    Play {
+        kinds: &[SEQ_FLAT],
+        clients: &[
+            ("grow", GROW_TEXT),
+            ("shrink", SHRINK_TEXT),
+            ("empty", EMPTY_TEXT),
+        ],
+        text: r"$ on 1024 grow; free 192 named 1
+        5
+        25
+        helloabcdefghijklmnopqrst\
+        $ then shrink; free 208 named 1
+        $ then empty; free 240 named 1
+        0
+        6",
+    },
+    // The bytes of a text, one by one.
+    Play {
+        kinds: &KINDS,
+        clients: &[],
+        text: "$ client bytes
+            type str
+            name s
+            CONST r1 255
+            CONST r2 256
+            CONST r3 0
+            CONST r4 -1
+            CONST r5 1
+            FINDOR r0 - t0 k0
+              ADDB r6 r0 r1
+                OUTI r6
+              ELSE
+              END
+              ADDB r6 r0 r2
+              ELSE
+                OUTI r6
+              END
+              ADDB r6 r0 r4
+              ELSE
+                OUTI r6
+              END
+              AT r6 r0 r3
+                OUTI r6
+              ELSE
+              END
+              AT r6 r0 r5
+              ELSE
+                OUTI r6
+              END
+              AT r6 r0 r4
+              ELSE
+                OUTI r6
+              END
+              LEN r6 r0
+              OUTI r6
+            ELSE
+            END
+        $ on 1024 bytes
+        1
+        5
+        5
+        255
+        5
+        5
+        1",
+    },
+    // Each node of a list of numbers has 2 units.
+    Play {
+        kinds: &[SEQ_FLAT],
+        clients: &[
             ("push", PUSH_NUMBERS),
             ("pop", POP_NUMBER),
             ("clear", CLEAR_LIST),
             ("kill", KILL_LIST),
         ],
-        "$ on 1024 push; free 112 named 1
+        text: "$ on 1024 push; free 112 named 1
         $ then pop; free 144 named 1
         3
         7
         $ then clear; free 240 named 1
         6
         $ then kill; free 320 named 0",
-    )
+    },
+];
+
+#[test]
+fn each_play(rt: HostRuntime) -> Result<(), Fail> {
+    play_each(rt.alloc(), &PLAYS)
 }

@@ -1,34 +1,28 @@
 //! The clients of `examples/` that share their objects.
 
-use crate::tests::plays::plays_with;
+use crate::tests::plays::{Play, play_each};
 use std::test::Fail;
 use support_data::{CACHE, CONFIGURE, COUNT, SETTINGS};
 use support_runs::KINDS;
 
-/// Clients share a counter over several runs of the program.
-#[test]
-fn clients_share_a_counter(rt: HostRuntime) -> Result<(), Fail> {
-    plays_with(
-        rt.alloc(),
-        &KINDS,
-        &[("count", COUNT)],
-        "$ on 1024 count count
+static PLAYS: [Play; 3] = [
+    // Clients share a counter over several runs of the program.
+    Play {
+        kinds: &KINDS,
+        clients: &[("count", COUNT)],
+        text: "$ on 1024 count count
         1
         2
         $ then count
         3
         $ on 736 count
         no room",
-    )
-}
-
-#[test]
-fn clients_share_settings(rt: HostRuntime) -> Result<(), Fail> {
-    plays_with(
-        rt.alloc(),
-        &KINDS,
-        &[("configure", CONFIGURE), ("settings", SETTINGS)],
-        "$ on 1024 settings
+    },
+    // Clients share settings.
+    Play {
+        kinds: &KINDS,
+        clients: &[("configure", CONFIGURE), ("settings", SETTINGS)],
+        text: "$ on 1024 settings
         no settings
         $ on 1024 configure settings configure
         1
@@ -42,17 +36,12 @@ fn clients_share_settings(rt: HostRuntime) -> Result<(), Fail> {
         2
         8080
         hello, world",
-    )
-}
-
-/// When a fourth entry is added, the oldest one is removed.
-#[test]
-fn a_cache_forgets_the_oldest(rt: HostRuntime) -> Result<(), Fail> {
-    plays_with(
-        rt.alloc(),
-        &KINDS,
-        &[("cache", CACHE)],
-        "$ on 2048 cache reads ABCADAC
+    },
+    // When a fourth entry is added, the oldest one is removed.
+    Play {
+        kinds: &KINDS,
+        clients: &[("cache", CACHE)],
+        text: "$ on 2048 cache reads ABCADAC
         miss 4225
         miss 4356
         miss 4489
@@ -63,5 +52,10 @@ fn a_cache_forgets_the_oldest(rt: HostRuntime) -> Result<(), Fail> {
         $ then cache reads DB
         hit 4624
         miss 4356",
-    )
+    },
+];
+
+#[test]
+fn each_play(rt: HostRuntime) -> Result<(), Fail> {
+    play_each(rt.alloc(), &PLAYS)
 }

@@ -1,7 +1,7 @@
 use seg_manager::TypeTable;
 use std::process::Abort;
 use std::test::Fail;
-use support_data::{INCREMENT_FILE, counter};
+use support_data::{INCREMENT_FILE, counter, is_true};
 use support_runs::{PLAIN, Setting, run_files, verified};
 
 /// Runs a client, if it is accepted, on the counter's image. It must end within its bound.
@@ -17,7 +17,7 @@ fn ends_within_its_bound(
     let setting = Setting { room: 784, ..PLAIN };
     let ran = run_files(rt.alloc(), image, &[file], setting)?;
     let report = ran.reports.first().copied().unwrap_or_default();
-    assert!(rt; report.steps <= client.bound());
+    is_true(report.steps <= client.bound()).expect(rt, "true");
     Ok(true)
 }
 
@@ -38,6 +38,6 @@ fn changed_clients_end_within_their_bounds(rt: HostRuntime) -> Result<(), Fail> 
         }
         file[at] = was;
     }
-    assert!(rt; accepted > 0);
+    is_true(accepted > 0).expect(&rt, "true");
     Ok(())
 }

@@ -1,6 +1,7 @@
 use client_vm::Ended;
 use std::process::Abort;
 use std::test::Fail;
+use support_data::{equal, is_true};
 use support_runs::{Ran, statistics_of};
 
 /// Tests what the clients print, and how many bytes are free and how many names there are afterwards.
@@ -11,10 +12,10 @@ pub(crate) fn leaves(
     free: u32,
     named: u32,
 ) -> Result<(), Fail> {
-    assert_eq!(rt; ran.out.as_slice(), printed.as_bytes());
+    equal(ran.out.as_slice(), printed.as_bytes()).expect(rt, "equal");
     let left = statistics_of(rt.alloc(), ran.image.as_slice())?;
-    assert_eq!(rt; left.free, free);
-    assert_eq!(rt; left.named, named);
-    assert!(rt; ran.ended == Ended::Done);
+    equal(left.free, free).expect(rt, "equal");
+    equal(left.named, named).expect(rt, "equal");
+    is_true(ran.ended == Ended::Done).expect(rt, "true");
     Ok(())
 }

@@ -1,4 +1,4 @@
-use crate::tests::plays::{plays, plays_with};
+use crate::tests::plays::{Play, play_each, plays_with};
 use std::alloc::Global;
 use std::test::Fail;
 use support_runs::{KINDS, SEQ_FLAT};
@@ -112,14 +112,12 @@ const PUT_FIFTH: &str = "type i64
     ELSE
     END";
 
-/// A flat map of 4 numbers has a buffer of 5 units, and one of 5 numbers a buffer of 9 units in the same place.
-#[test]
-fn flat_maps_grow(rt: HostRuntime) -> Result<(), Fail> {
-    plays_with(
-        rt.alloc(),
-        &[SEQ_FLAT],
-        &[("put_four", PUT_FOUR), ("put_fifth", PUT_FIFTH)],
-        "$ on 1024 put_four; free 160 named 1
+static PLAYS: [Play; 2] = [
+    // A flat map of 4 numbers has a buffer of 5 units, and one of 5 numbers a buffer of 9 units in the same place.
+    Play {
+        kinds: &[SEQ_FLAT],
+        clients: &[("put_four", PUT_FOUR), ("put_fifth", PUT_FIFTH)],
+        text: "$ on 1024 put_four; free 160 named 1
         $ then put_fifth; free 96 named 1
         3
         0
@@ -127,16 +125,12 @@ fn flat_maps_grow(rt: HostRuntime) -> Result<(), Fail> {
         1
         0
         4",
-    )
-}
-
-/// A node of a map of numbers has 3 units.
-#[test]
-fn maps_have_nodes(rt: HostRuntime) -> Result<(), Fail> {
-    plays(
-        rt.alloc(),
-        &[SEQ_FLAT],
-        "$ client put
+    },
+    // A node of a map of numbers has 3 units.
+    Play {
+        kinds: &[SEQ_FLAT],
+        clients: &[],
+        text: "$ client put
             type i64
             type map t0
             name m
@@ -156,5 +150,10 @@ fn maps_have_nodes(rt: HostRuntime) -> Result<(), Fail> {
             ELSE
             END
         $ on 1024 put; free 96 named 1",
-    )
+    },
+];
+
+#[test]
+fn each_play(rt: HostRuntime) -> Result<(), Fail> {
+    play_each(rt.alloc(), &PLAYS)
 }

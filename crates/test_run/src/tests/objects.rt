@@ -1,4 +1,4 @@
-use crate::tests::plays::{plays, plays_with};
+use crate::tests::plays::{Play, play_each};
 use std::test::Fail;
 use support_runs::{KINDS, SEQ_FLAT};
 
@@ -12,137 +12,6 @@ const MAKE: &str = "type i64
     ELSE
       OUTI r0
     END";
-
-/// The object has 2 units. A flat index prefers 3 units and accepts 2, and a node of the tree has 3.
-#[test]
-fn makes_an_object_where_there_is_room(rt: HostRuntime) -> Result<(), Fail> {
-    plays_with(
-        rt.alloc(),
-        &KINDS,
-        &[("make", MAKE)],
-        "$ on 1024 make; free 240 named 1
-        42
-        $ on 784 make; free 0 named 1
-        42
-        $ flat on 768 make; free 0 named 1
-        42
-        $ tree on 768 make; free 64 named 0
-        2
-        $ on 752 make; free 48 named 0
-        2
-        $ on 736 make; free 32 named 0
-        2",
-    )
-}
-
-#[test]
-fn destroys_an_object_once(rt: HostRuntime) -> Result<(), Fail> {
-    plays_with(
-        rt.alloc(),
-        &KINDS,
-        &[("make", MAKE)],
-        "$ client kill_twice
-            type i64
-            name x
-            KILL r0 - t0 k0
-            OUTI r0
-            KILL r0 - t0 k0
-            OUTI r0
-        $ on 1024 make kill_twice; free 320 largest 320 named 0
-        42
-        1
-        0",
-    )
-}
-
-/// An empty shared cell is as large as a number. Clients without types of shared cells run on the same image.
-#[test]
-fn objects_of_cells_that_share(rt: HostRuntime) -> Result<(), Fail> {
-    plays(
-        rt.alloc(),
-        &KINDS,
-        "$ client make
-            type i64
-            type shared t0
-            name x
-            MAKE r0 - - t1 k0
-              CONST r1 7
-              OUTI r1
-            ELSE
-              OUTI r0
-            END
-        $ client number
-            type i64
-            name y
-            MAKE r0 - - t0 k0
-            ELSE
-            END
-        $ client other
-            type i64
-            name x
-            FIND r0 - - t0 k0
-            ELSE
-              OUTI r0
-            END
-        $ client kill
-            type i64
-            type shared t0
-            name x
-            FIND r0 - - t1 k0
-              CONST r1 5
-              OUTI r1
-            ELSE
-            END
-            KILL r0 - t1 k0
-            OUTI r0
-        $ on 1024 make; free 240 named 1
-        7
-        $ then make other; free 240 named 1
-        1
-        4
-        $ then kill; free 320 named 0
-        5
-        1
-        $ flat on 1024 number make; free 208 named 2
-        7
-        $ tree on 1024 number make; free 160 named 2
-        7",
-    )
-}
-
-/// Two named numbers: two objects of 2 units, and an index of 3 units or two nodes of 3. A second x can't be made.
-#[test]
-fn makes_two_objects(rt: HostRuntime) -> Result<(), Fail> {
-    plays(
-        rt.alloc(),
-        &KINDS,
-        "$ client make
-            type i64
-            name y
-            name x
-            MAKE r0 - - t0 k0
-            ELSE
-            END
-            MAKE r0 - - t0 k1
-            ELSE
-            END
-            MAKE r0 - - t0 k1
-            ELSE
-              OUTI r0
-            END
-        $ client kill
-            type i64
-            name x
-            name y
-            KILL r0 - t0 k0
-            KILL r0 - t0 k1
-        $ flat on 1024 make; free 208 named 2
-        1
-        $ tree on 1024 make; free 160 named 2
-        1
-        $ then kill; free 320 named 0",
-    )
-}
 
 /// Makes an array of three numbers, stores 9 in the last one, and prints the count and this number.
 const ROWS: &str = "type i64
@@ -204,26 +73,6 @@ const REFUSED: &str = "type i64
       OUTI r3
     END";
 
-/// The second client has one more type, and refers to the array of the first.
-#[test]
-fn objects_of_many_values(rt: HostRuntime) -> Result<(), Fail> {
-    plays_with(
-        rt.alloc(),
-        &KINDS,
-        &[("rows", ROWS), ("refused", REFUSED)],
-        "$ on 1024 rows refused
-        3
-        9
-        5
-        5
-        4
-        3
-        5
-        1
-        4",
-    )
-}
-
 /// Makes the unique pair with a 9 in its second field, and fails to make it again.
 const MAKE_PAIR: &str = "type i64
     type struct t0 t0
@@ -268,17 +117,145 @@ const KILL_PAIR_TWICE: &str = "type i64
     UKILL r0 t1
     OUTI r0";
 
-#[test]
-fn unique_objects(rt: HostRuntime) -> Result<(), Fail> {
-    plays_with(
-        rt.alloc(),
-        &KINDS,
-        &[
+static PLAYS: [Play; 7] = [
+    // The object has 2 units. A flat index prefers 3 units and accepts 2, and a node of the tree has 3.
+    Play {
+        kinds: &KINDS,
+        clients: &[("make", MAKE)],
+        text: "$ on 1024 make; free 240 named 1
+        42
+        $ on 784 make; free 0 named 1
+        42
+        $ flat on 768 make; free 0 named 1
+        42
+        $ tree on 768 make; free 64 named 0
+        2
+        $ on 752 make; free 48 named 0
+        2
+        $ on 736 make; free 32 named 0
+        2",
+    },
+    // Destroys an object once.
+    Play {
+        kinds: &KINDS,
+        clients: &[("make", MAKE)],
+        text: "$ client kill_twice
+            type i64
+            name x
+            KILL r0 - t0 k0
+            OUTI r0
+            KILL r0 - t0 k0
+            OUTI r0
+        $ on 1024 make kill_twice; free 320 largest 320 named 0
+        42
+        1
+        0",
+    },
+    // An empty shared cell is as large as a number. Clients without types of shared cells run on the same image.
+    Play {
+        kinds: &KINDS,
+        clients: &[],
+        text: "$ client make
+            type i64
+            type shared t0
+            name x
+            MAKE r0 - - t1 k0
+              CONST r1 7
+              OUTI r1
+            ELSE
+              OUTI r0
+            END
+        $ client number
+            type i64
+            name y
+            MAKE r0 - - t0 k0
+            ELSE
+            END
+        $ client other
+            type i64
+            name x
+            FIND r0 - - t0 k0
+            ELSE
+              OUTI r0
+            END
+        $ client kill
+            type i64
+            type shared t0
+            name x
+            FIND r0 - - t1 k0
+              CONST r1 5
+              OUTI r1
+            ELSE
+            END
+            KILL r0 - t1 k0
+            OUTI r0
+        $ on 1024 make; free 240 named 1
+        7
+        $ then make other; free 240 named 1
+        1
+        4
+        $ then kill; free 320 named 0
+        5
+        1
+        $ flat on 1024 number make; free 208 named 2
+        7
+        $ tree on 1024 number make; free 160 named 2
+        7",
+    },
+    // Two named numbers: two objects of 2 units, and an index of 3 units or two nodes of 3. A second x can't be made.
+    Play {
+        kinds: &KINDS,
+        clients: &[],
+        text: "$ client make
+            type i64
+            name y
+            name x
+            MAKE r0 - - t0 k0
+            ELSE
+            END
+            MAKE r0 - - t0 k1
+            ELSE
+            END
+            MAKE r0 - - t0 k1
+            ELSE
+              OUTI r0
+            END
+        $ client kill
+            type i64
+            name x
+            name y
+            KILL r0 - t0 k0
+            KILL r0 - t0 k1
+        $ flat on 1024 make; free 208 named 2
+        1
+        $ tree on 1024 make; free 160 named 2
+        1
+        $ then kill; free 320 named 0",
+    },
+    // The second client has one more type, and refers to the array of the first.
+    Play {
+        kinds: &KINDS,
+        clients: &[("rows", ROWS), ("refused", REFUSED)],
+        text: "$ on 1024 rows refused
+        3
+        9
+        5
+        5
+        4
+        3
+        5
+        1
+        4",
+    },
+    // Unique objects.
+    Play {
+        kinds: &KINDS,
+        clients: &[
             ("make", MAKE_PAIR),
             ("find", FIND_PAIR),
             ("kill_twice", KILL_PAIR_TWICE),
         ],
-        "$ on 1024 make; free 288 named 0 unique 1
+        text: "$ on 1024 make; free 288 named 0 unique 1
         1
         9
         $ then find kill_twice; free 320 named 0
@@ -287,17 +264,13 @@ fn unique_objects(rt: HostRuntime) -> Result<(), Fail> {
         9
         1
         0",
-    )
-}
-
-/// A client reads two bytes of the input, or prints the code at its end. Each client reads the input that the clients before it
-/// left.
-#[test]
-fn reads_the_input(rt: HostRuntime) -> Result<(), Fail> {
-    plays(
-        rt.alloc(),
-        &[SEQ_FLAT],
-        "$ client twice
+    },
+    // A client reads two bytes of the input, or prints the code at its end. Each client reads the input that the clients before it
+    // left.
+    Play {
+        kinds: &[SEQ_FLAT],
+        clients: &[],
+        text: "$ client twice
             GETB r0
               OUTI r0
               GETB r0
@@ -319,5 +292,10 @@ fn reads_the_input(rt: HostRuntime) -> Result<(), Fail> {
         65
         66
         6",
-    )
+    },
+];
+
+#[test]
+fn each_play(rt: HostRuntime) -> Result<(), Fail> {
+    play_each(rt.alloc(), &PLAYS)
 }

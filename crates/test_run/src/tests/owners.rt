@@ -1,8 +1,8 @@
-use crate::tests::plays::{plays, plays_with};
+use crate::tests::plays::{Play, play_each, plays_with};
 use client_vm::Ended;
 use std::alloc::Global;
 use std::test::Fail;
-use support_data::chain;
+use support_data::{chain, is_true};
 use support_runs::{KINDS, PLAIN, Ran, SegmentKind, Setting, empty, run_in, statistics_of};
 
 /// A chain of 20,000 objects, each of which owns the one before, is made and destroyed.
@@ -17,13 +17,48 @@ fn a_chain_of_owners(rt: HostRuntime) -> Result<(), Fail> {
     )
 }
 
-/// The object of an own is destroyed when it is replaced, cleared, or dropped with its owner.
+/// Makes an object, and prints a number.
+const PRINT_WHILE_OWNING: &str = "type i64
+    NEW r0 t0
+      CONST r1 42
+      OUTI r1
+      DROP r0
+    ELSE
+    END";
+
+/// Whether the first client's output failed at the third step, after 2 bytes. Then the second client doesn't run.
+fn has_failed(ran: &Ran) -> bool {
+    let report = ran.reports.first().copied().unwrap_or_default();
+    ran.ended == Ended::OutputFailed
+        && ran.reports.len() == 1
+        && report.steps == 3
+        && ran.out.as_slice() == b"42".as_slice()
+}
+
+/// How many bytes are free after a failed output, if a register owned an object, which is destroyed then.
+fn free_at_failure(alloc: Global, kind: SegmentKind) -> Result<Option<u32>, Fail> {
+    let image = empty(alloc, 1024, kind)?;
+    let setting = Setting { limit: 2, ..PLAIN };
+    let texts = [PRINT_WHILE_OWNING, PRINT_WHILE_OWNING];
+    let ran = run_in(alloc, image.as_slice(), &texts, setting)?;
+    let left = statistics_of(alloc, ran.image.as_slice())?;
+    Ok(has_failed(&ran).then_some(left.free))
+}
+
 #[test]
-fn owners_destroy_what_they_hold(rt: HostRuntime) -> Result<(), Fail> {
-    plays(
-        rt.alloc(),
-        &KINDS,
-        "$ client owners
+fn registers_are_emptied_at_the_end(rt: HostRuntime) -> Result<(), Fail> {
+    for kind in KINDS {
+        is_true(free_at_failure(rt.alloc(), kind)? == Some(320)).expect(&rt, "true");
+    }
+    Ok(())
+}
+
+static PLAYS: [Play; 1] = [
+    // The object of an own is destroyed when it is replaced, cleared, or dropped with its owner.
+    Play {
+        kinds: &KINDS,
+        clients: &[],
+        text: "$ client owners
             type i64
             type own t0
             CONST r1 5
@@ -65,41 +100,10 @@ fn owners_destroy_what_they_hold(rt: HostRuntime) -> Result<(), Fail> {
         6
         6
         5",
-    )
-}
-
-/// Makes an object, and prints a number.
-const PRINT_WHILE_OWNING: &str = "type i64
-    NEW r0 t0
-      CONST r1 42
-      OUTI r1
-      DROP r0
-    ELSE
-    END";
-
-/// Whether the first client's output failed at the third step, after 2 bytes. Then the second client doesn't run.
-fn has_failed(ran: &Ran) -> bool {
-    let report = ran.reports.first().copied().unwrap_or_default();
-    ran.ended == Ended::OutputFailed
-        && ran.reports.len() == 1
-        && report.steps == 3
-        && ran.out.as_slice() == b"42".as_slice()
-}
-
-/// How many bytes are free after a failed output, if a register owned an object, which is destroyed then.
-fn free_at_failure(alloc: Global, kind: SegmentKind) -> Result<Option<u32>, Fail> {
-    let image = empty(alloc, 1024, kind)?;
-    let setting = Setting { limit: 2, ..PLAIN };
-    let texts = [PRINT_WHILE_OWNING, PRINT_WHILE_OWNING];
-    let ran = run_in(alloc, image.as_slice(), &texts, setting)?;
-    let left = statistics_of(alloc, ran.image.as_slice())?;
-    Ok(has_failed(&ran).then_some(left.free))
-}
+    },
+];
 
 #[test]
-fn registers_are_emptied_at_the_end(rt: HostRuntime) -> Result<(), Fail> {
-    for kind in KINDS {
-        assert!(rt; free_at_failure(rt.alloc(), kind)? == Some(320));
-    }
-    Ok(())
+fn each_play(rt: HostRuntime) -> Result<(), Fail> {
+    play_each(rt.alloc(), &PLAYS)
 }

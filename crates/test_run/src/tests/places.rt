@@ -7,7 +7,7 @@ use seg_manager::{Fault, Region, Segment};
 use std::alloc::Global;
 use std::process::Abort;
 use std::test::Fail;
-use support_data::{INCREMENT_FILE, Limited, chain, counter, counter_saved};
+use support_data::{INCREMENT_FILE, Limited, chain, counter, counter_saved, equal, is_true};
 use support_runs::{
     KINDS, PLAIN, Ran, SEQ_FLAT, SeqFit, Setting, empty, opened, outcome_of, placed, ready,
     run_files, run_in,
@@ -38,9 +38,9 @@ fn increment(
     let client = ready(rt.alloc(), &INCREMENT_FILE, segment.types())?;
     let mut out = Through::new(Limited::new(rt.alloc(), 1, usize::MAX));
     let report = run(segment, &client, b"", moves, &mut out);
-    assert_eq!(rt; report.steps, 6);
-    assert!(rt; report.ended == Ended::Done);
-    assert_eq!(rt; out.into_inner().bytes.as_slice(), b"42\n".as_slice());
+    equal(report.steps, 6).expect(rt, "equal");
+    is_true(report.ended == Ended::Done).expect(rt, "true");
+    equal(out.into_inner().bytes.as_slice(), b"42\n".as_slice()).expect(rt, "equal");
     Ok(())
 }
 
@@ -51,10 +51,10 @@ fn increments(
     moves: &[Move],
 ) -> Result<Region<Global>, Fail> {
     let mut segment = counter_at(rt.alloc(), base)?;
-    assert_eq!(rt; moves_fit(&segment, moves), None);
+    equal(moves_fit(&segment, moves), None).expect(rt, "equal");
     increment(rt, &mut segment, moves)?;
     let saved = counter_saved(rt.alloc(), 42)?;
-    assert_eq!(rt; segment.window().slice(0, 784), saved.as_slice());
+    equal(segment.window().slice(0, 784), saved.as_slice()).expect(rt, "equal");
     Ok(segment.into_region())
 }
 
@@ -70,7 +70,8 @@ fn keeps(region: &Region<Global>, from: u32, to: u32) -> bool {
 fn host_bytes_stay(rt: HostRuntime) -> Result<(), Fail> {
     for base in [0u32, 16, 4096, 7408] {
         let region = increments(&rt, base, &[])?;
-        assert!(rt; keeps(&region, 0, base) && keeps(&region, base.saturating_add(784), ROOM));
+        let is_kept = keeps(&region, 0, base) && keeps(&region, base.saturating_add(784), ROOM);
+        is_true(is_kept).expect(&rt, "true");
     }
     Ok(())
 }
@@ -94,7 +95,7 @@ fn moves_between(alloc: Global, steps: u64, odd: u32, even: u32) -> Result<Vec<M
 fn host_bytes_stay_where_it_moves(rt: HostRuntime) -> Result<(), Fail> {
     let moves = moves_between(rt.alloc(), 6, 4096, 0)?;
     let region = increments(&rt, 0, moves.as_slice())?;
-    assert!(rt; keeps(&region, 784, 4096) && keeps(&region, 4880, ROOM));
+    is_true(keeps(&region, 784, 4096) && keeps(&region, 4880, ROOM)).expect(&rt, "true");
     Ok(())
 }
 
@@ -102,11 +103,12 @@ fn host_bytes_stay_where_it_moves(rt: HostRuntime) -> Result<(), Fail> {
 #[test]
 fn an_image_stays_where_it_was(rt: HostRuntime) -> Result<(), Fail> {
     let region = increments(&rt, 0, &[before(5, 4096)])?;
-    assert_eq!(rt; region.len(), ROOM);
-    assert_eq!(rt;
+    assert!(rt; region.len() == ROOM);
+    equal(
         region.slice(0, 784),
-        counter_saved(rt.alloc(), 41)?.as_slice()
-    );
+        counter_saved(rt.alloc(), 41)?.as_slice(),
+    )
+    .expect(&rt, "equal");
     Ok(())
 }
 
@@ -115,11 +117,11 @@ fn an_image_stays_where_it_was(rt: HostRuntime) -> Result<(), Fail> {
 fn moves_that_do_not_fit(rt: HostRuntime) -> Result<(), Fail> {
     let segment = counter_at(rt.alloc(), 0)?;
     let fits = before(2, 16);
-    assert_eq!(rt; moves_fit(&segment, &[fits, before(3, 7408)]), None);
+    equal(moves_fit(&segment, &[fits, before(3, 7408)]), None).expect(&rt, "equal");
     for second in [before(2, 0), before(3, 8), before(3, 7424)] {
-        assert_eq!(rt; moves_fit(&segment, &[fits, second]), Some(1));
+        equal(moves_fit(&segment, &[fits, second]), Some(1)).expect(&rt, "equal");
     }
-    assert_eq!(rt; moves_fit(&segment, &[before(0, 0)]), Some(0));
+    equal(moves_fit(&segment, &[before(0, 0)]), Some(0)).expect(&rt, "equal");
     Ok(())
 }
 
@@ -134,8 +136,8 @@ fn refuses_move(rt: &(impl Abort + AllocGlobal), moves: &[Move], bad: u32) -> Re
     match outcome_of(rt.alloc(), image.as_slice(), &[], setting) {
         Ok(_ran) => Err(Fail::from("ran")),
         Err(refused) => {
-            assert!(rt; refused.fault == Fault::BadMove(bad));
-            assert!(rt; refused.client.is_none());
+            is_true(refused.fault == Fault::BadMove(bad)).expect(rt, "true");
+            is_true(refused.client.is_none()).expect(rt, "true");
             Ok(())
         }
     }
@@ -161,9 +163,9 @@ fn runs_alike_where_it_moves(rt: HostRuntime) -> Result<(), Fail> {
     };
     let clients = [INCREMENT_FILE.as_slice(), INCREMENT_FILE.as_slice()];
     let ran = run_files(rt.alloc(), image.as_slice(), clients.as_slice(), setting)?;
-    assert_eq!(rt; ran.out.as_slice(), b"42\n43\n".as_slice());
+    equal(ran.out.as_slice(), b"42\n43\n".as_slice()).expect(&rt, "equal");
     let saved = counter_saved(rt.alloc(), 43)?;
-    assert_eq!(rt; ran.image.as_slice(), saved.as_slice());
+    equal(ran.image.as_slice(), saved.as_slice()).expect(&rt, "equal");
     Ok(())
 }
 
@@ -176,9 +178,9 @@ fn runs_alike(
 ) -> Result<Ran, Fail> {
     let still = run_in(rt.alloc(), image, texts, PLAIN)?;
     let ran = run_in(rt.alloc(), image, texts, setting)?;
-    assert_eq!(rt; ran.out.as_slice(), still.out.as_slice());
-    assert_eq!(rt; ran.image.as_slice(), still.image.as_slice());
-    assert!(rt; ran.reports == still.reports);
+    equal(ran.out.as_slice(), still.out.as_slice()).expect(rt, "equal");
+    equal(ran.image.as_slice(), still.image.as_slice()).expect(rt, "equal");
+    is_true(ran.reports == still.reports).expect(rt, "true");
     Ok(ran)
 }
 

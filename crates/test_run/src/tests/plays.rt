@@ -20,12 +20,21 @@ use std::test::Fail;
 use support_data::statements;
 use support_runs::{PLAIN, Ran, SegmentKind, Setting, client, empty, run_files, statistics_of};
 
-/// Performs the statements of a text on each of these kinds of segments.
-pub(crate) fn plays(alloc: Global, kinds: &[SegmentKind], text: &str) -> Result<(), Fail> {
-    plays_with(alloc, kinds, &[], text)
+/// A text of statements, which is performed on each of these kinds of segments. Each client has a name and a text.
+pub(crate) struct Play {
+    pub(crate) kinds: &'static [SegmentKind],
+    pub(crate) clients: &'static [(&'static str, &'static str)],
+    pub(crate) text: &'static str,
 }
 
-/// Like [`plays`], with these clients, each a name and a text.
+pub(crate) fn play_each(alloc: Global, plays: &'static [Play]) -> Result<(), Fail> {
+    for play in plays {
+        plays_with(alloc, play.kinds, play.clients, play.text)?;
+    }
+    Ok(())
+}
+
+/// Performs the statements of a text on each of these kinds of segments, with these clients.
 pub(crate) fn plays_with(
     alloc: Global,
     kinds: &[SegmentKind],
@@ -33,27 +42,27 @@ pub(crate) fn plays_with(
     text: &str,
 ) -> Result<(), Fail> {
     for kind in kinds {
-        let mut play = Play::new(alloc, *kind);
+        let mut stage = Stage::new(alloc, *kind);
         for (name, client) in clients {
-            play.add(*name, *client)?;
+            stage.add(*name, *client)?;
         }
-        play.follow(text)?;
+        stage.follow(text)?;
     }
     Ok(())
 }
 
 /// The state of a text's statements on one kind of segment.
 #[derive(Drop)]
-struct Play<'a> {
+struct Stage<'a> {
     alloc: Global,
     kind: SegmentKind,
     clients: Vec<(&'a str, Vec<u8>)>,
     image: Vec<u8>,
 }
 
-impl<'a> Play<'a> {
-    fn new(alloc: Global, kind: SegmentKind) -> Play<'a> {
-        Play {
+impl<'a> Stage<'a> {
+    fn new(alloc: Global, kind: SegmentKind) -> Stage<'a> {
+        Stage {
             alloc,
             kind,
             clients: Vec::new(alloc),

@@ -4,7 +4,7 @@ use client_vm::{Move, Refused};
 use seg_manager::Fault;
 use std::process::Abort;
 use std::test::Fail;
-use support_data::{INCREMENT_FILE, counter, counter_saved, counter_where};
+use support_data::{INCREMENT_FILE, counter, counter_saved, counter_where, equal};
 use support_runs::{PLAIN, Setting, outcome_in};
 
 /// A region of the counter's length.
@@ -30,8 +30,8 @@ fn comes_back(
     match outcome_in(rt.alloc(), bytes, clients, setting) {
         Ok(_ran) => Err(Fail::from("ran")),
         Err(unrun) => {
-            assert_eq!(rt; unrun.refused, refused);
-            assert_eq!(rt; unrun.bytes.as_slice(), image.as_slice());
+            equal(unrun.refused, refused).expect(rt, "equal");
+            equal(unrun.bytes.as_slice(), image.as_slice()).expect(rt, "equal");
             Ok(())
         }
     }
@@ -74,11 +74,12 @@ fn runs(rt: &(impl Abort + AllocGlobal), setting: Setting) -> Result<(), Fail> {
     let clients = [INCREMENT_FILE.as_slice()];
     match outcome_in(rt.alloc(), counter(rt.alloc())?, &clients, setting) {
         Ok(ran) => {
-            assert_eq!(rt; ran.out.as_slice(), b"42\n".as_slice());
-            assert_eq!(rt;
+            equal(ran.out.as_slice(), b"42\n".as_slice()).expect(rt, "equal");
+            equal(
                 ran.image.as_slice(),
-                counter_saved(rt.alloc(), 42)?.as_slice()
-            );
+                counter_saved(rt.alloc(), 42)?.as_slice(),
+            )
+            .expect(rt, "equal");
             Ok(())
         }
         Err(unrun) => Err(Fail::from(unrun.refused.fault)),

@@ -2,13 +2,13 @@
 //! heap of 320 bytes at 704, in which a number, a cell and a frozen number take 32 bytes each.
 
 use crate::tests::left::leaves;
-use crate::tests::plays::{plays, plays_with};
+use crate::tests::plays::{Play, play_each};
 use client_vm::Ended;
 use seg_manager::{Fault, TypeTable};
 use std::alloc::Global;
 use std::process::Abort;
 use std::test::Fail;
-use support_data::{COUNT, NOTICE, PUBLISH, sharing, write_words};
+use support_data::{COUNT, NOTICE, PUBLISH, equal, is_true, sharing, write_words};
 use support_runs::{
     KINDS, PLAIN, Ran, SEQ_FLAT, SegmentKind, Setting, checked, client, empty, outcome_of,
     run_anew, run_in, run_on, verified,
@@ -67,31 +67,12 @@ fn shared_image(alloc: Global) -> Result<Vec<u8>, Fail> {
     Ok(run_anew(alloc, 1024, SEQ_FLAT, &[SHARE])?.image)
 }
 
-#[test]
-fn a_frozen_number_is_shared_and_read(rt: HostRuntime) -> Result<(), Fail> {
-    plays_with(
-        rt.alloc(),
-        &KINDS,
-        &[("share", SHARE)],
-        "$ client kill
-            type i64
-            type shared t0
-            name b
-            KILL r0 - t1 k0
-            OUTI r0
-        $ on 1024 share; free 208 named 1 steps 12
-        7
-        $ then kill; free 320 named 0 largest 320
-        1",
-    )
-}
-
 /// Each instruction outside the else parts is a step.
 #[test]
 fn the_steps_of_sharing_are_the_bound(rt: HostRuntime) -> Result<(), Fail> {
     let file = client(rt.alloc(), SHARE)?;
     let accepted = verified(file.as_slice(), &TypeTable::new())?;
-    assert_eq!(rt; accepted.bound(), 12);
+    equal(accepted.bound(), 12).expect(&rt, "equal");
     Ok(())
 }
 
@@ -111,8 +92,8 @@ fn has_words(image: &[u8], at: usize, words: &[u32]) -> bool {
 #[test]
 fn the_bytes_of_what_is_shared(rt: HostRuntime) -> Result<(), Fail> {
     let image = shared_image(rt.alloc())?;
-    assert!(rt; has_words(image.as_slice(), 800, &[64, 1]));
-    assert!(rt; has_words(image.as_slice(), 864, &[1, 0, 7, 0]));
+    is_true(has_words(image.as_slice(), 800, &[64, 1])).expect(&rt, "true");
+    is_true(has_words(image.as_slice(), 864, &[1, 0, 7, 0])).expect(&rt, "true");
     Ok(())
 }
 
@@ -132,7 +113,9 @@ fn fault_of_changed(alloc: Global, at: usize, word: u32) -> Result<Option<Fault>
 #[test]
 fn wrong_counts_and_numbers_are_refused(rt: HostRuntime) -> Result<(), Fail> {
     for (at, word) in [(864, 2), (868, 1)] {
-        assert!(rt; fault_of_changed(rt.alloc(), at, word)? == Some(Fault::BadValue(864)));
+        is_true(fault_of_changed(rt.alloc(), at, word)? == Some(Fault::BadValue(864))).expect(
+            &rt, "true",
+        );
     }
     Ok(())
 }
@@ -141,7 +124,7 @@ fn wrong_counts_and_numbers_are_refused(rt: HostRuntime) -> Result<(), Fail> {
 #[test]
 fn numbers_are_used_up(rt: HostRuntime) -> Result<(), Fail> {
     let image = changed(rt.alloc(), 28, u32::MAX)?;
-    assert_eq!(rt; checked(rt.alloc(), image.as_slice()), Ok(()));
+    equal(checked(rt.alloc(), image.as_slice()), Ok(())).expect(&rt, "equal");
     let ran = run_on(rt.alloc(), image.as_slice(), &[FREEZE])?;
     // the cell `a` is made in the same place as before
     leaves(&rt, &ran, "7\n", 176, 2)
@@ -168,13 +151,14 @@ fn what_is_frozen_is_not_changed(rt: HostRuntime) -> Result<(), Fail> {
     match outcome_of(rt.alloc(), image.as_slice(), &[file.as_slice()], PLAIN) {
         Ok(_) => Err(Fail::from("ran")),
         Err(refused) => {
-            assert_eq!(rt;
+            equal(
                 refused.fault,
                 Fault::Rejected {
                     instruction: 3,
-                    reason: 1
-                }
-            );
+                    reason: 1,
+                },
+            )
+            .expect(&rt, "equal");
             Ok(())
         }
     }
@@ -211,129 +195,16 @@ const REPLACE: &str = "type i64
     ELSE
     END";
 
-#[test]
-fn a_cell_names_what_its_content_shares(rt: HostRuntime) -> Result<(), Fail> {
-    plays_with(
-        rt.alloc(),
-        &KINDS,
-        &[("replace", REPLACE)],
-        "$ on 1024 replace; free 192 named 1",
-    )
-}
-
 /// The named object is at 704 and its index at 736. The first struct, at 784, moves to the 48 bytes at 816. The second one, also
 /// at 784, moves to the 48 bytes at 864, which are free again at the end. The cell of `h` at 720 points to 832.
 #[test]
 fn the_first_of_two_frozen_structs_is_left(rt: HostRuntime) -> Result<(), Fail> {
     let ran = run_anew(rt.alloc(), 1024, SEQ_FLAT, &[REPLACE])?;
     let image = ran.image.as_slice();
-    assert!(rt; has_words(image, 28, &[2]));
-    assert!(rt; has_words(image, 720, &[112, 1]));
-    assert!(rt; has_words(image, 832, &[1, 0, 0, 0, 1, 0]));
+    is_true(has_words(image, 28, &[2])).expect(&rt, "true");
+    is_true(has_words(image, 720, &[112, 1])).expect(&rt, "true");
+    is_true(has_words(image, 832, &[1, 0, 0, 0, 1, 0])).expect(&rt, "true");
     Ok(())
-}
-
-/// The unique cell shares a frozen 7, and an object with the value 8 takes the last free block. It can't be frozen, and both
-/// objects stay. A block of 32 bytes uses up a free block of 48, since 16 bytes can't be a block.
-#[test]
-fn no_gap_for_a_frozen_object(rt: HostRuntime) -> Result<(), Fail> {
-    plays(
-        rt.alloc(),
-        &KINDS,
-        "$ client freeze
-            type i64
-            type shared t0
-            CONST r4 7
-            CONST r9 8
-            UMAKE r0 t1
-              NEW r2 t0
-                REF r3 r2
-                STORE r3 r4
-                FREEZE r5 r0 r2
-                ELSE
-                  DROP r2
-                END
-              ELSE
-              END
-              NEW r2 t0
-                REF r3 r2
-                STORE r3 r9
-                FREEZE r5 r0 r2
-                ELSE
-                  OUTI r5
-                  REF r3 r2
-                  LOAD r6 r3
-                  OUTI r6
-                  DROP r2
-                END
-              ELSE
-              END
-              CONTENT r7 r0
-                LOAD r8 r7
-                OUTI r8
-              ELSE
-              END
-            ELSE
-            END
-        $ on 800 freeze; free 32 unique 1
-        2
-        8
-        7
-        $ on 816 freeze; free 32 unique 1
-        2
-        8
-        7
-        $ on 832 freeze; free 64 unique 1
-        8",
-    )
-}
-
-/// Sharing from an empty cell empties the other cell. Sharing from the cell itself changes nothing.
-#[test]
-fn cells_share_nothing_and_themselves(rt: HostRuntime) -> Result<(), Fail> {
-    plays_with(
-        rt.alloc(),
-        &KINDS,
-        &[("share", SHARE)],
-        "$ client itself
-            type i64
-            type shared t0
-            name b
-            FIND r0 - - t1 k0
-              SHARE r0 r0
-              MOV r2 r0
-              SHARE r2 r0
-              CONTENT r1 r2
-                LOAD r1 r1
-                OUTI r1
-              ELSE
-              END
-            ELSE
-            END
-        $ client nothing
-            type i64
-            type shared t0
-            name b
-            name c
-            MAKE r2 - - t1 k1
-              FIND r0 - - t1 k0
-                SHARE r0 r2
-                CONTENT r1 r0
-                ELSE
-                  OUTI r1
-                END
-                SHARE r0 r2
-              ELSE
-              END
-            ELSE
-            END
-            KILL r3 - t1 k1
-        $ on 1024 share itself; free 208 named 1
-        7
-        7
-        $ then nothing itself; free 240 named 1
-        6",
-    )
 }
 
 /// Freezes a struct with a value of each kind into `h`.
@@ -522,14 +393,174 @@ const READ_EACH_KIND: &str = "type i64
     ELSE
     END";
 
-/// The numbers of the struct are 11 to 17 in the order of its fields; the key is -5, and `b` is 98.
+/// Tests that a client that only reads changes nothing.
+fn reading_changes_nothing(rt: &(impl Abort + AllocGlobal), kind: SegmentKind) -> Result<(), Fail> {
+    let frozen = run_anew(rt.alloc(), 4096, kind, &[FREEZE_EACH_KIND])?;
+    let read = run_on(rt.alloc(), frozen.image.as_slice(), &[READ_EACH_KIND])?;
+    equal(read.image.as_slice(), frozen.image.as_slice()).expect(rt, "equal");
+    Ok(())
+}
+
 #[test]
-fn what_is_frozen_is_read_in_each_way(rt: HostRuntime) -> Result<(), Fail> {
-    plays_with(
-        rt.alloc(),
-        &KINDS,
-        &[("freeze", FREEZE_EACH_KIND), ("read", READ_EACH_KIND)],
-        r"$ client kill
+fn readers_change_nothing(rt: HostRuntime) -> Result<(), Fail> {
+    for kind in KINDS {
+        reading_changes_nothing(&rt, kind)?;
+    }
+    Ok(())
+}
+
+/// An output fails after an object was frozen and shared. Tests that the objects are as they are without a failure.
+fn output_fails_after(rt: &(impl Abort + AllocGlobal), limit: usize) -> Result<Ran, Fail> {
+    let image = empty(rt.alloc(), 1024, SEQ_FLAT)?;
+    let setting = Setting { limit, ..PLAIN };
+    run_in(rt.alloc(), image.as_slice(), &[SHARE], setting)
+}
+
+#[test]
+fn frozen_objects_stay_where_the_output_fails(rt: HostRuntime) -> Result<(), Fail> {
+    let image = shared_image(rt.alloc())?;
+    for limit in 0..2 {
+        let ran = output_fails_after(&rt, limit)?;
+        is_true(ran.ended == Ended::OutputFailed).expect(&rt, "true");
+        equal(ran.image.as_slice(), image.as_slice()).expect(&rt, "equal");
+    }
+    Ok(())
+}
+
+/// A client makes its number in the lowest free block, beside a frozen number. The block of the cell that shares this and the
+/// frozen number's own block are unchanged.
+#[test]
+fn clients_run_beside_a_frozen_object(rt: HostRuntime) -> Result<(), Fail> {
+    let image = sharing(rt.alloc())?;
+    let ran = run_on(rt.alloc(), image.as_slice(), &[COUNT, COUNT])?;
+    leaves(&rt, &ran, "1\n2\n", 208 - 32, 2)?;
+    let (old, new) = (image.as_slice(), ran.image.as_slice());
+    equal(new.get(784..816), old.get(784..816)).expect(&rt, "equal");
+    equal(new.get(848..880), old.get(848..880)).expect(&rt, "equal");
+    Ok(())
+}
+
+static PLAYS: [Play; 6] = [
+    // A frozen number is shared and read.
+    Play {
+        kinds: &KINDS,
+        clients: &[("share", SHARE)],
+        text: "$ client kill
+            type i64
+            type shared t0
+            name b
+            KILL r0 - t1 k0
+            OUTI r0
+        $ on 1024 share; free 208 named 1 steps 12
+        7
+        $ then kill; free 320 named 0 largest 320
+        1",
+    },
+    // A cell shares the object of its content.
+    Play {
+        kinds: &KINDS,
+        clients: &[("replace", REPLACE)],
+        text: "$ on 1024 replace; free 192 named 1",
+    },
+    // The unique cell shares a frozen 7, and an object with the value 8 takes the last free block. It can't be frozen, and both
+    // objects stay. A block of 32 bytes uses up a free block of 48, since 16 bytes can't be a block.
+    Play {
+        kinds: &KINDS,
+        clients: &[],
+        text: "$ client freeze
+            type i64
+            type shared t0
+            CONST r4 7
+            CONST r9 8
+            UMAKE r0 t1
+              NEW r2 t0
+                REF r3 r2
+                STORE r3 r4
+                FREEZE r5 r0 r2
+                ELSE
+                  DROP r2
+                END
+              ELSE
+              END
+              NEW r2 t0
+                REF r3 r2
+                STORE r3 r9
+                FREEZE r5 r0 r2
+                ELSE
+                  OUTI r5
+                  REF r3 r2
+                  LOAD r6 r3
+                  OUTI r6
+                  DROP r2
+                END
+              ELSE
+              END
+              CONTENT r7 r0
+                LOAD r8 r7
+                OUTI r8
+              ELSE
+              END
+            ELSE
+            END
+        $ on 800 freeze; free 32 unique 1
+        2
+        8
+        7
+        $ on 816 freeze; free 32 unique 1
+        2
+        8
+        7
+        $ on 832 freeze; free 64 unique 1
+        8",
+    },
+    // Sharing from an empty cell empties the other cell. Sharing from the cell itself changes nothing.
+    Play {
+        kinds: &KINDS,
+        clients: &[("share", SHARE)],
+        text: "$ client itself
+            type i64
+            type shared t0
+            name b
+            FIND r0 - - t1 k0
+              SHARE r0 r0
+              MOV r2 r0
+              SHARE r2 r0
+              CONTENT r1 r2
+                LOAD r1 r1
+                OUTI r1
+              ELSE
+              END
+            ELSE
+            END
+        $ client nothing
+            type i64
+            type shared t0
+            name b
+            name c
+            MAKE r2 - - t1 k1
+              FIND r0 - - t1 k0
+                SHARE r0 r2
+                CONTENT r1 r0
+                ELSE
+                  OUTI r1
+                END
+                SHARE r0 r2
+              ELSE
+              END
+            ELSE
+            END
+            KILL r3 - t1 k1
+        $ on 1024 share itself; free 208 named 1
+        7
+        7
+        $ then nothing itself; free 240 named 1
+        6",
+    },
+    // The numbers of the struct are 11 to 17 in the order of its fields; the key is -5, and `b` is 98.
+    Play {
+        kinds: &KINDS,
+        clients: &[("freeze", FREEZE_EACH_KIND), ("read", READ_EACH_KIND)],
+        text: r"$ client kill
             type i64
             type str
             type vec t0
@@ -566,69 +597,22 @@ fn what_is_frozen_is_read_in_each_way(rt: HostRuntime) -> Result<(), Fail> {
         17
         17
         $ then kill; named 0 free 3392 largest 3392",
-    )
-}
-
-/// Tests that a client that only reads changes nothing.
-fn reading_changes_nothing(rt: &(impl Abort + AllocGlobal), kind: SegmentKind) -> Result<(), Fail> {
-    let frozen = run_anew(rt.alloc(), 4096, kind, &[FREEZE_EACH_KIND])?;
-    let read = run_on(rt.alloc(), frozen.image.as_slice(), &[READ_EACH_KIND])?;
-    assert_eq!(rt; read.image.as_slice(), frozen.image.as_slice());
-    Ok(())
-}
-
-#[test]
-fn readers_change_nothing(rt: HostRuntime) -> Result<(), Fail> {
-    for kind in KINDS {
-        reading_changes_nothing(&rt, kind)?;
-    }
-    Ok(())
-}
-
-/// A notice is published and printed, twice. Before that there is no notice to print.
-#[test]
-fn a_notice_is_published(rt: HostRuntime) -> Result<(), Fail> {
-    plays_with(
-        rt.alloc(),
-        &KINDS,
-        &[("publish", PUBLISH), ("notice", NOTICE)],
-        "$ on 2048 notice publish notice; named 2
+    },
+    // A notice is published and printed, twice. Before that there is no notice to print.
+    Play {
+        kinds: &KINDS,
+        clients: &[("publish", PUBLISH), ("notice", NOTICE)],
+        text: "$ on 2048 notice publish notice; named 2
         no notice
         7
         closed on Monday
         $ then publish notice; named 2
         7
         closed on Monday",
-    )
-}
-
-/// An output fails after an object was frozen and shared. Tests that the objects are as they are without a failure.
-fn output_fails_after(rt: &(impl Abort + AllocGlobal), limit: usize) -> Result<Ran, Fail> {
-    let image = empty(rt.alloc(), 1024, SEQ_FLAT)?;
-    let setting = Setting { limit, ..PLAIN };
-    run_in(rt.alloc(), image.as_slice(), &[SHARE], setting)
-}
+    },
+];
 
 #[test]
-fn frozen_objects_stay_where_the_output_fails(rt: HostRuntime) -> Result<(), Fail> {
-    let image = shared_image(rt.alloc())?;
-    for limit in 0..2 {
-        let ran = output_fails_after(&rt, limit)?;
-        assert!(rt; ran.ended == Ended::OutputFailed);
-        assert_eq!(rt; ran.image.as_slice(), image.as_slice());
-    }
-    Ok(())
-}
-
-/// A client makes its number in the lowest free block, beside a frozen number. The block of the cell that shares this and the
-/// frozen number's own block are unchanged.
-#[test]
-fn clients_run_beside_a_frozen_object(rt: HostRuntime) -> Result<(), Fail> {
-    let image = sharing(rt.alloc())?;
-    let ran = run_on(rt.alloc(), image.as_slice(), &[COUNT, COUNT])?;
-    leaves(&rt, &ran, "1\n2\n", 208 - 32, 2)?;
-    let (old, new) = (image.as_slice(), ran.image.as_slice());
-    assert_eq!(rt; new.get(784..816), old.get(784..816));
-    assert_eq!(rt; new.get(848..880), old.get(848..880));
-    Ok(())
+fn each_play(rt: HostRuntime) -> Result<(), Fail> {
+    play_each(rt.alloc(), &PLAYS)
 }

@@ -1,8 +1,8 @@
-use crate::tests::plays::plays;
+use crate::tests::plays::{Play, play_each};
 use client_vm::Ended;
 use std::process::Abort;
 use std::test::Fail;
-use support_data::MAKE_EACH_KIND;
+use support_data::{MAKE_EACH_KIND, equal, is_true};
 use support_runs::{KINDS, SEQ_FLAT, SegmentKind, run_anew, statistics_of};
 
 /// Destroys the objects that [`MAKE_EACH_KIND`] made.
@@ -45,7 +45,7 @@ const FREEZE: &str = "UMAKE r0 t8
 /// Tests that each line of an output is the code for out of memory. Returns the number of lines.
 fn codes(rt: &impl Abort, out: &[u8]) -> usize {
     for line in out.chunks(2) {
-        assert_eq!(rt; line, b"2\n".as_slice());
+        equal(line, b"2\n".as_slice()).expect(rt, "equal");
     }
     out.len() / 2
 }
@@ -59,11 +59,11 @@ fn leaves_nothing(
     units: u32,
 ) -> Result<usize, Fail> {
     let ran = run_anew(rt.alloc(), units.saturating_mul(16), kind, texts)?;
-    assert!(rt; ran.ended == Ended::Done);
+    is_true(ran.ended == Ended::Done).expect(rt, "true");
     let left = statistics_of(rt.alloc(), ran.image.as_slice())?;
-    assert_eq!(rt; left.largest, units.saturating_mul(16).saturating_sub(704));
-    assert_eq!(rt; left.named, 0);
-    assert_eq!(rt; left.unique, 0);
+    equal(left.largest, units.saturating_mul(16).saturating_sub(704)).expect(rt, "equal");
+    equal(left.named, 0).expect(rt, "equal");
+    equal(left.unique, 0).expect(rt, "equal");
     Ok(codes(rt, ran.out.as_slice()))
 }
 
@@ -77,23 +77,22 @@ fn leaves_nothing_on_each_size(rt: HostRuntime) -> Result<(), Fail> {
     let texts = [freeze.as_str(), make.as_str(), release.as_str()];
     for kind in KINDS {
         // the object to freeze, six named objects, and the second and the third unique one
-        assert_eq!(rt; leaves_nothing(&rt, &texts, kind, 46)?, 9);
+        equal(leaves_nothing(&rt, &texts, kind, 46)?, 9).expect(&rt, "equal");
         for units in 47..256 {
             let _ = leaves_nothing(&rt, &texts, kind, units)?;
         }
-        assert_eq!(rt; leaves_nothing(&rt, &texts, kind, 256)?, 0);
+        equal(leaves_nothing(&rt, &texts, kind, 256)?, 0).expect(&rt, "equal");
     }
     Ok(())
 }
 
-/// Prints the length of a vector after a push, or the code. The object has 2 units, or 3; the index 2 or 3; and the vector's
-/// buffer 3 for four numbers, or 2 for one.
-#[test]
-fn first_push_by_size(rt: HostRuntime) -> Result<(), Fail> {
-    plays(
-        rt.alloc(),
-        &[SEQ_FLAT],
-        "$ client push
+static PLAYS: [Play; 1] = [
+    // Prints the length of a vector after a push, or the code. The object has 2 units, or 3; the index 2 or 3; and the vector's
+    // buffer 3 for four numbers, or 2 for one.
+    Play {
+        kinds: &[SEQ_FLAT],
+        clients: &[],
+        text: "$ client push
             type i64
             type vec t0
             name v
@@ -125,5 +124,10 @@ fn first_push_by_size(rt: HostRuntime) -> Result<(), Fail> {
         1
         $ on 864 push; named 1 free 32
         1",
-    )
+    },
+];
+
+#[test]
+fn each_play(rt: HostRuntime) -> Result<(), Fail> {
+    play_each(rt.alloc(), &PLAYS)
 }

@@ -6,7 +6,7 @@ use seg_manager::IndexKind;
 use std::alloc::Global;
 use std::process::Abort;
 use std::test::Fail;
-use support_data::Limited;
+use support_data::{Limited, equal, is_true};
 use support_runs::{SeqFit, client, created, ready};
 
 /// A vector gets a struct, and the field of the struct the numbers 2 and 1 in a loop. The vector has no item 1. Then an object is
@@ -212,8 +212,8 @@ fn traced(
 
 fn traces(rt: &(impl Abort + AllocGlobal), text: &str, lines: &str) -> Result<(), Fail> {
     let (out, ended) = traced(rt.alloc(), text, usize::MAX)?;
-    assert_eq!(rt; out.as_slice(), lines.as_bytes());
-    assert!(rt; ended == Ok(()));
+    equal(out.as_slice(), lines.as_bytes()).expect(rt, "equal");
+    is_true(ended == Ok(())).expect(rt, "true");
     Ok(())
 }
 
@@ -235,7 +235,7 @@ fn traces_what_is_shared(rt: HostRuntime) -> Result<(), Fail> {
 #[test]
 fn cuts_long_paths_and_output(rt: HostRuntime) -> Result<(), Fail> {
     let (out, _) = traced(rt.alloc(), CHAIN, usize::MAX)?;
-    assert!(rt; out.as_slice().ends_with(CHAIN_END.as_bytes()));
+    is_true(out.as_slice().ends_with(CHAIN_END.as_bytes())).expect(&rt, "true");
     Ok(())
 }
 
@@ -243,7 +243,7 @@ fn cuts_long_paths_and_output(rt: HostRuntime) -> Result<(), Fail> {
 #[test]
 fn ends_at_an_output_that_fails(rt: HostRuntime) -> Result<(), Fail> {
     let (out, ended) = traced(rt.alloc(), STORES, 100)?;
-    assert_eq!(rt; out.as_slice(), &STORES_TRACE.as_bytes()[..100]);
-    assert!(rt; ended == Err(Untraced::OutputFailed));
+    equal(out.as_slice(), &STORES_TRACE.as_bytes()[..100]).expect(&rt, "equal");
+    is_true(ended == Err(Untraced::OutputFailed)).expect(&rt, "true");
     Ok(())
 }

@@ -5,7 +5,7 @@ use crate::tests::left::leaves;
 use client_vm::Ended;
 use std::process::Abort;
 use std::test::Fail;
-use support_data::front;
+use support_data::{equal, front, is_true};
 use support_runs::{PLAIN, SEQ_FLAT, Setting, empty, run_in, run_on};
 
 /// An output fails after this many bytes. Tests that what was made before stays, and that the saved image is accepted.
@@ -14,8 +14,8 @@ fn output_fails_after(rt: &(impl Abort + AllocGlobal), limit: usize) -> Result<(
     let setting = Setting { limit, ..PLAIN };
     let texts = [FIVE_TEXTS, PRINT_TEXTS];
     let ran = run_in(rt.alloc(), image.as_slice(), &texts, setting)?;
-    assert!(rt; ran.ended == Ended::OutputFailed);
-    assert_eq!(rt; ran.out.as_slice(), front(b"abbcccddddeeeee", limit));
+    is_true(ran.ended == Ended::OutputFailed).expect(rt, "true");
+    equal(ran.out.as_slice(), front(b"abbcccddddeeeee", limit)).expect(rt, "equal");
     let again = run_on(rt.alloc(), ran.image.as_slice(), &[PRINT_TEXTS])?;
     leaves(rt, &again, "abbcccddddeeeee", 0, 1)
 }

@@ -21,18 +21,13 @@ fn root_of<F: Fit>(alloc: Global, types: &str) -> Result<Rooted<F>, Fail> {
     with_root::<F>(alloc, 1024, types, 1)
 }
 
-fn calls_on_texts<F: Fit>(rt: &(impl Abort + AllocGlobal)) -> Result<(), Fail> {
-    let mut s = root_of::<F>(rt.alloc(), "i64, str")?;
+fn calls_on_texts<F: Fit>(rt: &impl Abort, s: &mut Rooted<F>) -> Result<(), Code> {
     assign(&mut s.heap, s.root, b"hello")?;
     append(&mut s.heap, s.root, b", all")?;
     equal(push_byte(&mut s.heap, s.root, b'!'), Ok(11)).expect(rt, "equal");
     equal(seg_seq::len(&s.heap, s.root), Ok(11)).expect(rt, "equal");
-    let from = at(&s.heap, s.root, 0)?;
-    equal(
-        s.heap.window().slice(from as usize, 11),
-        b"hello, all!".as_slice(),
-    )
-    .expect(rt, "equal");
+    let from = at(&s.heap, s.root, 0)? as usize;
+    equal(s.heap.window().slice(from, 11), b"hello, all!".as_slice()).expect(rt, "equal");
     s.heap.clear(s.root);
     is_one_gap(rt, s.heap.window());
     Ok(())
@@ -40,8 +35,9 @@ fn calls_on_texts<F: Fit>(rt: &(impl Abort + AllocGlobal)) -> Result<(), Fail> {
 
 #[test]
 fn each_call_on_a_text(rt: HostRuntime) -> Result<(), Fail> {
-    calls_on_texts::<SeqFit>(&rt)?;
-    calls_on_texts::<BestFit>(&rt)
+    calls_on_texts(&rt, &mut root_of::<SeqFit>(rt.alloc(), "i64, str")?)?;
+    calls_on_texts(&rt, &mut root_of::<BestFit>(rt.alloc(), "i64, str")?)?;
+    Ok(())
 }
 
 fn push_number<F: Fit>(s: &mut Rooted<F>, number: i64) -> Result<(), Code> {
@@ -54,27 +50,23 @@ fn item<F: Fit>(s: &Rooted<F>, index: u32) -> Result<i64, Code> {
     Ok(s.heap.load(at(&s.heap, s.root, index)?))
 }
 
-/// A list of the numbers 1, 2 and 3.
-fn three_numbers<F: Fit>(rt: &(impl Abort + AllocGlobal)) -> Result<Rooted<F>, Fail> {
-    let mut s = root_of::<F>(rt.alloc(), "i64, list t0")?;
-    push_number(&mut s, 2)?;
-    push_number(&mut s, 3)?;
+/// Makes a list of the numbers 1, 2 and 3.
+fn push_three<F: Fit>(rt: &impl Abort, s: &mut Rooted<F>) -> Result<(), Code> {
+    push_number(s, 2)?;
+    push_number(s, 3)?;
     let first = push_front(&mut s.heap, s.root)?;
     s.heap.store(first, 1);
     equal(s.heap.load(next(&s.heap, first)), 2).expect(rt, "equal");
     equal(s.heap.load(previous(&s.heap, first)), 3).expect(rt, "equal");
-    Ok(s)
+    Ok(())
 }
 
-fn calls_on_lists<F: Fit>(rt: &(impl Abort + AllocGlobal)) -> Result<(), Fail> {
-    let mut s = three_numbers::<F>(rt)?;
-    equal(item(&s, 0), Ok(1)).expect(rt, "equal");
-    equal(item(&s, 1), Ok(2)).expect(rt, "equal");
-    equal(item(&s, 2), Ok(3)).expect(rt, "equal");
+fn calls_on_lists<F: Fit>(rt: &impl Abort, s: &mut Rooted<F>) -> Result<(), Code> {
+    push_three(rt, s)?;
+    equal([item(s, 0), item(s, 1), item(s, 2)], [Ok(1), Ok(2), Ok(3)]).expect(rt, "equal");
     pop_front(&mut s.heap, s.root)?;
     pop_back(&mut s.heap, s.root)?;
-    equal(item(&s, 0), Ok(2)).expect(rt, "equal");
-    equal(item(&s, 1), Err(Code::OutOfRange)).expect(rt, "equal");
+    equal([item(s, 0), item(s, 1)], [Ok(2), Err(Code::OutOfRange)]).expect(rt, "equal");
     pop_back(&mut s.heap, s.root)?;
     equal(pop_back(&mut s.heap, s.root), Err(Code::Null)).expect(rt, "equal");
     is_one_gap(rt, s.heap.window());
@@ -83,8 +75,9 @@ fn calls_on_lists<F: Fit>(rt: &(impl Abort + AllocGlobal)) -> Result<(), Fail> {
 
 #[test]
 fn each_call_on_a_list(rt: HostRuntime) -> Result<(), Fail> {
-    calls_on_lists::<SeqFit>(&rt)?;
-    calls_on_lists::<BestFit>(&rt)
+    calls_on_lists(&rt, &mut root_of::<SeqFit>(rt.alloc(), "i64, list t0")?)?;
+    calls_on_lists(&rt, &mut root_of::<BestFit>(rt.alloc(), "i64, list t0")?)?;
+    Ok(())
 }
 
 /// Adds a key to the number at this key. A new number is 0.
@@ -98,54 +91,46 @@ fn value<F: Fit>(s: &Rooted<F>, key: i64) -> Result<i64, Code> {
     Ok(s.heap.load(get(&s.heap, s.root, key)?))
 }
 
-/// A map with the keys -5, 3 and 4. The number at 3 is 6, since 3 was added twice.
-fn three_keys<F: Fit>(alloc: Global, types: &str) -> Result<Rooted<F>, Fail> {
-    let mut s = root_of::<F>(alloc, types)?;
-    for key in [3, -5, 4, 3] {
-        add(&mut s, key)?;
-    }
-    Ok(s)
-}
-
-fn calls_on_maps<F: Fit>(rt: &(impl Abort + AllocGlobal), types: &str) -> Result<(), Fail> {
-    let mut s = three_keys::<F>(rt.alloc(), types)?;
+/// Calls on a map with the keys -5, 3 and 4. The number at 3 is 6, since 3 was added twice.
+fn calls_on_maps<F: Fit>(rt: &impl Abort, s: &mut Rooted<F>) {
     equal(seg_map::len(&s.heap, s.root), Ok(3)).expect(rt, "equal");
     equal(first_key(&s.heap, s.root), Ok(-5)).expect(rt, "equal");
     equal(next_key(&s.heap, s.root, -5), Ok(3)).expect(rt, "equal");
-    equal(value(&s, 3), Ok(6)).expect(rt, "equal");
-    equal(value(&s, 4), Ok(4)).expect(rt, "equal");
+    equal([value(s, 3), value(s, 4)], [Ok(6), Ok(4)]).expect(rt, "equal");
     is_true(remove(&mut s.heap, s.root, 3)).expect(rt, "true");
     is_true(!remove(&mut s.heap, s.root, 3)).expect(rt, "true");
-    equal(value(&s, 3), Err(Code::Absent)).expect(rt, "equal");
+    equal(value(s, 3), Err(Code::Absent)).expect(rt, "equal");
     equal(push_back(&mut s.heap, s.root), Err(Code::OtherType)).expect(rt, "equal");
-    Ok(())
 }
 
-/// The keys from the greatest one down, once from a key that the map doesn't have.
-fn keys_downwards<F: Fit>(rt: &(impl Abort + AllocGlobal), types: &str) -> Result<(), Fail> {
-    let empty = root_of::<F>(rt.alloc(), types)?;
-    equal(last_key(&empty.heap, empty.root), Err(Code::Null)).expect(rt, "equal");
-    let s = three_keys::<F>(rt.alloc(), types)?;
+/// The keys of that map from the greatest one down, once from a key that it doesn't have.
+fn keys_downwards<F: Fit>(rt: &impl Abort, s: &Rooted<F>) {
     equal(last_key(&s.heap, s.root), Ok(4)).expect(rt, "equal");
     equal(previous_key(&s.heap, s.root, 4), Ok(3)).expect(rt, "equal");
     equal(previous_key(&s.heap, s.root, 0), Ok(-5)).expect(rt, "equal");
     equal(previous_key(&s.heap, s.root, -5), Err(Code::Null)).expect(rt, "equal");
+}
+
+fn calls_on_keys<F: Fit>(rt: &impl Abort, s: &mut Rooted<F>) -> Result<(), Code> {
+    equal(last_key(&s.heap, s.root), Err(Code::Null)).expect(rt, "equal");
+    for key in [3, -5, 4, 3] {
+        add(s, key)?;
+    }
+    keys_downwards(rt, s);
+    calls_on_maps(rt, s);
     Ok(())
 }
 
 #[test]
 fn each_call_on_a_map(rt: HostRuntime) -> Result<(), Fail> {
     for types in ["i64, flat_map t0", "i64, map t0"] {
-        calls_on_maps::<SeqFit>(&rt, types)?;
-        calls_on_maps::<BestFit>(&rt, types)?;
-        keys_downwards::<SeqFit>(&rt, types)?;
-        keys_downwards::<BestFit>(&rt, types)?;
+        calls_on_keys(&rt, &mut root_of::<SeqFit>(rt.alloc(), types)?)?;
+        calls_on_keys(&rt, &mut root_of::<BestFit>(rt.alloc(), types)?)?;
     }
     Ok(())
 }
 
-fn calls_on_owns<F: Fit>(rt: &(impl Abort + AllocGlobal)) -> Result<(), Fail> {
-    let mut s = root_of::<F>(rt.alloc(), "i64, own t0")?;
+fn calls_on_owns<F: Fit>(rt: &impl Abort, s: &mut Rooted<F>) -> Result<(), Code> {
     let number = Content::object(s.heap.types(), 0);
     let object = s.heap.new_block(&number)?;
     set_own(&mut s.heap, s.root, object);
@@ -158,6 +143,7 @@ fn calls_on_owns<F: Fit>(rt: &(impl Abort + AllocGlobal)) -> Result<(), Fail> {
 
 #[test]
 fn each_call_on_an_own(rt: HostRuntime) -> Result<(), Fail> {
-    calls_on_owns::<SeqFit>(&rt)?;
-    calls_on_owns::<BestFit>(&rt)
+    calls_on_owns(&rt, &mut root_of::<SeqFit>(rt.alloc(), "i64, own t0")?)?;
+    calls_on_owns(&rt, &mut root_of::<BestFit>(rt.alloc(), "i64, own t0")?)?;
+    Ok(())
 }

@@ -28,17 +28,13 @@ fn empty<F: Fit>(alloc: Global, index: IndexKind) -> Result<Segment<F, Global>, 
     segment::<F>(alloc, 1024, index, "i64, map t0")
 }
 
-/// Two numbers named y, and one named x.
-fn with_names<F: Fit>(
-    rt: &(impl Abort + AllocGlobal),
-    index: IndexKind,
-) -> Result<Segment<F, Global>, Fail> {
-    let mut s = empty::<F>(rt.alloc(), index)?;
+/// Makes two numbers named y, and one named x.
+fn makes_names<F: Fit>(rt: &impl Abort, s: &mut Segment<F, Global>) -> Result<(), Code> {
     let y = s.construct(b"y", NUMBER, 2)?;
     let x = s.find_or_construct(b"x", NUMBER)?;
     equal(s.find(b"y", NUMBER), Ok(Found { at: y, count: 2 })).expect(rt, "equal");
     equal(s.find_or_construct(b"x", NUMBER), Ok(x)).expect(rt, "equal");
-    Ok(s)
+    Ok(())
 }
 
 /// Calls on names are refused for each reason.
@@ -77,23 +73,25 @@ fn lists_names_of<F: Fit>(rt: &impl Abort, s: &Segment<F, Global>) {
     );
 }
 
-fn calls_on_names<F: Fit>(rt: &(impl Abort + AllocGlobal), index: IndexKind) -> Result<(), Fail> {
-    let mut s = with_names::<F>(rt, index)?;
-    refuses_names(rt, &mut s);
-    lists_names_of(rt, &s);
+fn calls_on_names<F: Fit>(
+    rt: &(impl Abort + AllocGlobal),
+    s: &mut Segment<F, Global>,
+) -> Result<(), Code> {
+    makes_names(rt, s)?;
+    refuses_names(rt, s);
+    lists_names_of(rt, s);
     is_true(first_fault(rt.alloc(), s.window()).is_none()).expect(rt, "true");
     is_true(s.destroy(b"x", NUMBER)).expect(rt, "true");
     is_true(!s.destroy(b"x", NUMBER)).expect(rt, "true");
     is_true(s.destroy(b"y", NUMBER)).expect(rt, "true");
-    is_true(all_memory_deallocated(&s)).expect(rt, "true");
+    is_true(all_memory_deallocated(s)).expect(rt, "true");
     Ok(())
 }
 
 fn calls_on_unique_objects<F: Fit>(
-    rt: &(impl Abort + AllocGlobal),
-    index: IndexKind,
-) -> Result<(), Fail> {
-    let mut s = empty::<F>(rt.alloc(), index)?;
+    rt: &impl Abort,
+    s: &mut Segment<F, Global>,
+) -> Result<(), Code> {
     equal(s.find_unique(MAP), Err(Code::Absent)).expect(rt, "equal");
     let map = s.construct_unique(MAP)?;
     equal(s.construct_unique(MAP), Err(Code::AlreadyExists)).expect(rt, "equal");
@@ -107,36 +105,31 @@ fn calls_on_unique_objects<F: Fit>(
 /// An object without an owner is a fault in an image.
 fn calls_on_anonymous_objects<F: Fit>(
     rt: &(impl Abort + AllocGlobal),
-    index: IndexKind,
-) -> Result<(), Fail> {
-    let mut s = empty::<F>(rt.alloc(), index)?;
+    s: &mut Segment<F, Global>,
+) -> Result<(), Code> {
     let number = s.new_anonymous(NUMBER)?;
-    equal(
-        first_fault(rt.alloc(), s.window()),
-        Some(Fault::Unowned(704)),
-    )
-    .expect(rt, "equal");
+    let fault = first_fault(rt.alloc(), s.window());
+    equal(fault, Some(Fault::Unowned(704))).expect(rt, "equal");
     s.destroy_anonymous(number);
-    is_true(all_memory_deallocated(&s)).expect(rt, "true");
+    is_true(all_memory_deallocated(s)).expect(rt, "true");
     Ok(())
 }
 
-#[test]
-fn each_call_on_names(rt: HostRuntime) -> Result<(), Fail> {
-    for index in INDEXES {
-        calls_on_names::<SeqFit>(&rt, index)?;
-        calls_on_names::<BestFit>(&rt, index)?;
-    }
-    Ok(())
+/// Calls on objects, on a segment without objects. Each leaves it so.
+fn calls_on_objects<F: Fit>(
+    rt: &(impl Abort + AllocGlobal),
+    s: &mut Segment<F, Global>,
+) -> Result<(), Code> {
+    calls_on_names(rt, s)?;
+    calls_on_unique_objects(rt, s)?;
+    calls_on_anonymous_objects(rt, s)
 }
 
 #[test]
-fn each_call_on_other_objects(rt: HostRuntime) -> Result<(), Fail> {
+fn each_call_on_objects(rt: HostRuntime) -> Result<(), Fail> {
     for index in INDEXES {
-        calls_on_unique_objects::<SeqFit>(&rt, index)?;
-        calls_on_unique_objects::<BestFit>(&rt, index)?;
-        calls_on_anonymous_objects::<SeqFit>(&rt, index)?;
-        calls_on_anonymous_objects::<BestFit>(&rt, index)?;
+        calls_on_objects(&rt, &mut empty::<SeqFit>(rt.alloc(), index)?)?;
+        calls_on_objects(&rt, &mut empty::<BestFit>(rt.alloc(), index)?)?;
     }
     Ok(())
 }
@@ -149,24 +142,30 @@ fn refuses_to_grow<F: Fit>(rt: &impl Abort, s: &mut Segment<F, Global>) {
 }
 
 /// A number and its name fill a segment of 784 bytes.
-fn calls_on_memory<F: Fit>(rt: &(impl Abort + AllocGlobal), index: IndexKind) -> Result<(), Fail> {
-    let mut s = segment_in::<F>(rt.alloc(), 1024, 784, index, "i64")?;
-    construct_number(&mut s, b"x")?;
-    refuses_to_grow(rt, &mut s);
-    equal(grow(&mut s, 240), Ok(1024)).expect(rt, "equal");
-    equal(free_memory(&s), 240).expect(rt, "equal");
-    equal(largest_gap(&s), 240).expect(rt, "equal");
-    zero_free_memory(&mut s);
+fn calls_on_memory<F: Fit>(
+    rt: &(impl Abort + AllocGlobal),
+    s: &mut Segment<F, Global>,
+) -> Result<(), Code> {
+    construct_number(s, b"x")?;
+    refuses_to_grow(rt, s);
+    equal(grow(s, 240), Ok(1024)).expect(rt, "equal");
+    equal([free_memory(s), largest_gap(s)], [240, 240]).expect(rt, "equal");
+    zero_free_memory(s);
     is_true(first_fault(rt.alloc(), s.window()).is_none()).expect(rt, "true");
-    equal(shrink_to_fit(&mut s), 784).expect(rt, "equal");
+    equal(shrink_to_fit(s), 784).expect(rt, "equal");
     Ok(())
+}
+
+/// A segment of 784 bytes that can grow to 1024.
+fn growing<F: Fit>(alloc: Global, index: IndexKind) -> Result<Segment<F, Global>, Fail> {
+    segment_in::<F>(alloc, 1024, 784, index, "i64")
 }
 
 #[test]
 fn each_call_on_memory(rt: HostRuntime) -> Result<(), Fail> {
     for index in INDEXES {
-        calls_on_memory::<SeqFit>(&rt, index)?;
-        calls_on_memory::<BestFit>(&rt, index)?;
+        calls_on_memory(&rt, &mut growing::<SeqFit>(rt.alloc(), index)?)?;
+        calls_on_memory(&rt, &mut growing::<BestFit>(rt.alloc(), index)?)?;
     }
     Ok(())
 }
@@ -243,34 +242,44 @@ fn share_a_number(segment: &mut Segment<SeqFit, Global>) -> Result<(), Code> {
     Ok(())
 }
 
-/// The image after two cells shared a frozen number and one was destroyed. Free memory, and the index after its only entry, are
-/// zeroed first.
-#[test]
-fn shares_a_number(rt: HostRuntime) -> Result<(), Fail> {
-    let types = "i64, shared t0";
-    let mut segment = segment::<SeqFit>(rt.alloc(), 1024, IndexKind::Flat, types)?;
-    share_a_number(&mut segment)?;
-    is_true(first_fault(rt.alloc(), segment.window()).is_none()).expect(&rt, "true");
-    equal(free_memory(&segment), 208).expect(&rt, "equal");
-    zero_free_memory(&mut segment);
+/// Shares a number in an empty segment, and zeroes free memory and the index after its only entry.
+fn shares_a_number(
+    rt: &(impl Abort + AllocGlobal),
+    segment: &mut Segment<SeqFit, Global>,
+) -> Result<(), Code> {
+    share_a_number(segment)?;
+    is_true(first_fault(rt.alloc(), segment.window()).is_none()).expect(rt, "true");
+    equal(free_memory(segment), 208).expect(rt, "equal");
+    zero_free_memory(segment);
     segment.heap_mut().window_mut().fill(760, 24, 0);
-    equal(
-        segment.window().slice(0, 1024),
-        sharing(rt.alloc())?.as_slice(),
-    )
-    .expect(&rt, "equal");
     Ok(())
 }
 
-/// An image of version 2 is saved unchanged. Destroying the last cell frees the frozen number.
+/// The image after two cells shared a frozen number and one was destroyed.
+#[test]
+fn shares_a_number_as_in_the_image(rt: HostRuntime) -> Result<(), Fail> {
+    let image = sharing(rt.alloc())?;
+    let types = "i64, shared t0";
+    let mut segment = segment::<SeqFit>(rt.alloc(), 1024, IndexKind::Flat, types)?;
+    shares_a_number(&rt, &mut segment)?;
+    equal(segment.window().slice(0, 1024), image.as_slice()).expect(&rt, "equal");
+    Ok(())
+}
+
+/// Destroys the last cell, which frees the frozen number.
+fn frees_what_is_shared(rt: &(impl Abort + AllocGlobal), segment: &mut Segment<SeqFit, Global>) {
+    is_true(segment.destroy(b"b", SHARED)).expect(rt, "true");
+    equal(free_memory(segment), 320).expect(rt, "equal");
+    is_true(first_fault(rt.alloc(), segment.window()).is_none()).expect(rt, "true");
+}
+
+/// An image of version 2 is saved unchanged.
 #[test]
 fn opens_and_saves_what_is_shared(rt: HostRuntime) -> Result<(), Fail> {
     let image = sharing(rt.alloc())?;
     let mut segment = opened(rt.alloc(), image.as_slice())?;
     saves_as(&rt, &segment, image.as_slice())?;
-    is_true(segment.destroy(b"b", SHARED)).expect(&rt, "true");
-    equal(free_memory(&segment), 320).expect(&rt, "equal");
-    is_true(first_fault(rt.alloc(), segment.window()).is_none()).expect(&rt, "true");
+    frees_what_is_shared(&rt, &mut segment);
     Ok(())
 }
 

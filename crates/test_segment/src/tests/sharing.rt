@@ -33,13 +33,12 @@ fn freeze_on_top<F: Fit>(s: &mut Rooted<F>) -> Result<(), Code> {
 }
 
 /// A frozen pair has 3 units, with its count and its number before its value. The first pair is freed with its last cell.
-fn calls_on_shared<F: Fit>(rt: &(impl Abort + AllocGlobal)) -> Result<(), Fail> {
-    let mut s = heap_of::<F>(rt.alloc(), 1024)?;
-    freeze_on_top(&mut s)?;
+fn calls_on_shared<F: Fit>(rt: &impl Abort, s: &mut Rooted<F>) -> Result<(), Code> {
+    freeze_on_top(s)?;
     let first = frozen(&s.heap, s.root);
     live_are(rt, s.heap.window(), &[(736, 3)]);
-    freeze_on_top(&mut s)?;
-    let second = frozen(&s.heap, s.root).ok_or("nothing")?;
+    freeze_on_top(s)?;
+    let second = frozen(&s.heap, s.root).ok_or(Code::Null)?;
     let field = place_of(SHARED, second.wrapping_add(8));
     equal(frozen(&s.heap, field), first).expect(rt, "equal");
     live_are(rt, s.heap.window(), &[(736, 3), (784, 3)]);
@@ -53,8 +52,9 @@ fn calls_on_shared<F: Fit>(rt: &(impl Abort + AllocGlobal)) -> Result<(), Fail> 
 
 #[test]
 fn each_call_on_shared_objects(rt: HostRuntime) -> Result<(), Fail> {
-    calls_on_shared::<SeqFit>(&rt)?;
-    calls_on_shared::<BestFit>(&rt)
+    calls_on_shared(&rt, &mut heap_of::<SeqFit>(rt.alloc(), 1024)?)?;
+    calls_on_shared(&rt, &mut heap_of::<BestFit>(rt.alloc(), 1024)?)?;
+    Ok(())
 }
 
 /// 20,000 frozen objects, each of which shares the one before, are freed with the cell that shares the last.

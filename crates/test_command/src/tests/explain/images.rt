@@ -4,7 +4,7 @@ use cli_explain::explain;
 use lezgauri::{Fault, check};
 use std::alloc::Global;
 use std::test::Fail;
-use support_data::counter_where;
+use support_data::{counter_where, equal};
 
 /// Explains the fault of the counter's image after these changes.
 fn explained(alloc: Global, changes: &str) -> Result<Vec<u8>, Fail> {
@@ -113,6 +113,6 @@ fn explains_faulty_images(rt: HostRuntime) -> Result<(), Fail> {
 fn explains_limits(rt: HostRuntime) -> Result<(), Fail> {
     let found = explain(rt.alloc(), Fault::BadSize, None, &clients_alone(&[]))?;
     let wanted = "a segment has 736 to 1073741824 bytes, a multiple of 16\n";
-    assert_eq!(rt; found.as_slice(), wanted.as_bytes());
+    equal(found.as_slice(), wanted.as_bytes()).expect(&rt, "equal");
     Ok(())
 }

@@ -3,7 +3,7 @@ use cli_explain::explain;
 use lezgauri::{Fault, TypeTable, assemble, parse_typed, verify_typed};
 use std::alloc::Global;
 use std::test::Fail;
-use support_data::counter;
+use support_data::{counter, equal};
 
 /// Explains why a client is refused on a segment without types.
 fn explained(alloc: Global, text: &str) -> Result<Vec<u8>, Fail> {
@@ -314,6 +314,6 @@ type 1 is str in the client
 type 1 is vector of type 0 in the image
 a client has to declare the types of the image with the same numbers; new types come after them
 ";
-    assert_eq!(rt; found.as_slice(), wanted.as_bytes());
+    equal(found.as_slice(), wanted.as_bytes()).expect(&rt, "equal");
     Ok(())
 }

@@ -1,13 +1,46 @@
 //! The calls on an image, without contracts, so that the proof of a test with many calls is short.
 
-use lezgauri::{
-    AllocatorKind, CheckedImage, Code, Entries, Fault, Image, ImageRead, IndexKind, Keys, Named,
-    Names, Numbers, Place, Ready, Region, Report, Through, Type, TypeId, TypeTable, Verified,
-    Window, check, prepare, run, type_table, verify,
+use seg_image::{
+    AllocatorKind, CheckedImage, Code, Entries, Fault, Fields, Image, ImageRead, IndexKind, Keys,
+    Named, Names, Numbers, Place, Region, Type, TypeId, TypeTable, Unopened, Window, check,
+    type_table,
 };
 use std::alloc::Global;
 use std::test::Fail;
-use support_data::Limited;
+
+pub(crate) const NUMBER: TypeId = 0;
+
+pub(crate) const TEXT: TypeId = 1;
+
+pub(crate) const VECTOR: TypeId = 2;
+
+pub(crate) const LIST: TypeId = 3;
+
+pub(crate) const FLAT_MAP: TypeId = 4;
+
+pub(crate) const MAP: TypeId = 5;
+
+pub(crate) const OWN: TypeId = 6;
+
+/// A struct of a number and a text.
+pub(crate) const PAIR: TypeId = 7;
+
+pub(crate) const SHARED: TypeId = 8;
+
+/// These types. All but the struct are of numbers.
+fn types() -> Option<[Type; 9]> {
+    Some([
+        Type::I64,
+        Type::Str,
+        Type::Vec(NUMBER),
+        Type::List(NUMBER),
+        Type::FlatMap(NUMBER),
+        Type::Map(NUMBER),
+        Type::Own(NUMBER),
+        Type::Struct(Fields::new(&[NUMBER, TEXT])?),
+        Type::Shared(NUMBER),
+    ])
+}
 
 /// An image in the host's memory.
 #[derive(Drop)]
@@ -28,19 +61,27 @@ impl Host {
     }
 
     /// Opens the image in these bytes. If there is a fault, returns the fault and the bytes.
-    pub(crate) fn open(alloc: Global, bytes: Vec<u8>) -> Result<Host, (Fault, Vec<u8>)> {
-        match Image::open(alloc, bytes) {
-            Ok(image) => Ok(Host { image }),
-            Err(unopened) => Err((unopened.fault, unopened.bytes)),
-        }
+    pub(crate) fn open(alloc: Global, bytes: Vec<u8>) -> Result<Host, Unopened<Global>> {
+        let image = Image::open(alloc, bytes)?;
+        Ok(Host { image })
+    }
+
+    /// An image of this size with the types above, and without objects.
+    pub(crate) fn empty(
+        alloc: Global,
+        size: u32,
+        allocator: AllocatorKind,
+        index: IndexKind,
+    ) -> Result<Host, Fail> {
+        let types = types().ok_or("no types")?;
+        let mut host = Host::create(alloc, size, allocator, index)?;
+        host.add_types(&types)?;
+        Ok(host)
     }
 
     /// Opens the image in these bytes, which must be sound.
-    pub(crate) fn opened(alloc: Global, bytes: Vec<u8>) -> Result<Host, Fail> {
-        match Host::open(alloc, bytes) {
-            Ok(host) => Ok(host),
-            Err((fault, _bytes)) => Err(Fail::from(fault)),
-        }
+    pub(crate) fn opened(alloc: Global, bytes: Vec<u8>) -> Result<Host, Fault> {
+        Host::open(alloc, bytes).map_err(Fault::from)
     }
 
     /// The image in a window, which isn't checked again.
@@ -80,30 +121,6 @@ impl Host {
 
     pub(crate) fn into_bytes(self) -> Vec<u8> {
         self.image.into_bytes()
-    }
-
-    pub(crate) fn verify<'c>(&self, client: &'c [u8]) -> Result<Verified<'c>, Fault> {
-        verify(&self.image, client)
-    }
-
-    /// Verifies and prepares a client.
-    pub(crate) fn prepare<'c>(
-        &self,
-        alloc: Global,
-        client: &'c [u8],
-    ) -> Result<Ready<'c, Global>, Fault> {
-        Ok(prepare(alloc, self.verify(client)?)?)
-    }
-
-    /// Runs a client without input, and returns its report and its output.
-    pub(crate) fn run(
-        &mut self,
-        alloc: Global,
-        client: &Ready<Global>,
-    ) -> Result<(Report, Vec<u8>), Fault> {
-        let mut out = Through::new(Limited::unlimited(alloc));
-        let report = run(&mut self.image, client, b"", &mut out)?;
-        Ok((report, out.into_inner().bytes))
     }
 }
 
@@ -343,4 +360,20 @@ pub(crate) fn open_checked<'a>(alloc: Global, bytes: &'a [u8]) -> Result<Checked
 /// The number of types in a sound image, or the image's fault.
 pub(crate) fn types_in(alloc: Global, bytes: &[u8]) -> Result<usize, Fault> {
     Ok(check(alloc, bytes)?.len())
+}
+
+/// A window on an image of this length at a base of a region.
+pub(crate) fn placed(
+    region: Region<Global>,
+    base: u32,
+    len: u32,
+    image: &[u8],
+) -> Result<Window<Global>, Fault> {
+    match Window::place(region, base, len) {
+        Ok(mut window) => {
+            window.copy_in(0, image);
+            Ok(window)
+        }
+        Err((fault, _region)) => Err(fault),
+    }
 }

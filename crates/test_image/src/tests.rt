@@ -1,0 +1,5 @@
+mod door;
+mod hosts;
+mod images;
+mod memory;
+mod readers;
