@@ -31,7 +31,7 @@ use Rattle.test_definitions.proofs.AlikeFirstLaws.{frozen_order}
 use Rattle.test_definitions.proofs.EndedImageLaws as ended
 use Rattle.test_definitions.proofs.FrozenContentLaws.{inside_kept, value_same}
 use Rattle.test_definitions.proofs.FrozenOrderLaws.{IsOneOf, each_of}
-use Rattle.test_definitions.proofs.FrozenStayLaws.{SameContent, Found, counted_same}
+use Rattle.test_definitions.proofs.FrozenStayLaws.{Found, then_same, counted_same}
 use Rattle.test_definitions.proofs.ReachedFrozenLaws.{StandsAt}
 use Rattle.test_definitions.proofs.AlikePictureLaws.{held_as}
 use Rattle.test_definitions.proofs.OneFrozenLaws.{Reordered, reordered, among_frozen, in_both, is_there, freed_blocks}
@@ -51,9 +51,6 @@ module _ (first second : List ℕ) (table : Table) where
 
 tail_is : (x y : ℕ) (xs ys : List ℕ) → ◌≡◌ {A = List ℕ} (x ∷ xs) (y ∷ ys) → xs ≡ ys
 tail_is x y xs ys e = ap (drop 1) e
-
-then_same : {f g h : Frozen} → SameContent f g → SameContent f h → SameContent g h
-then_same a b = record { at = b.at ∙ sym a.at; type = b.type ∙ sym a.type; number = b.number ∙ sym a.number; value = b.value ∙ sym a.value }
 
 -- a state that the image pictures, without registers
 abbrev state_of : Picture → State

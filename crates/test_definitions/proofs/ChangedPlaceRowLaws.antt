@@ -1,5 +1,6 @@
--- The picture after an instruction that changes one place, and the blocks of its value: the named, unique
--- and owned objects are where they were, and so are the frozen objects and the nodes of the index.
+-- The picture after an instruction that changes one place, the blocks of its value, and perhaps frozen
+-- objects: the named, unique and owned objects are where they were, and so are the nodes of the index. No
+-- frozen object came.
 use Rattle.std.proofs.Common.{◌≡◌, ◌≢◌, ℕ, zero, suc, ◌+◌, ◌%◌, ◌≤◌, ◌⊎◌, inl, inr, List, [], ◌∷◌, ◌++◌, length, Option, Some, None, refl, sym, ap, ◌∙◌, subst, arith, length-append}
 use Rattle.std.specs.Prelude.{is_some}
 use Rattle.std.specs.List.{AllByRecursion}
@@ -7,6 +8,7 @@ use Rattle.std.proofs.lemmas.List.{length-map}
 use Rattle.std.proofs.lemmas.Bool.{cases_eq}
 use Rattle.seg_spec.specs.Bytes.{word}
 use Rattle.seg_spec.specs.Header.{allocator_word, next_word, index_kind_word}
+use Rattle.seg_spec.specs.Apart.{KeepsBlockAround}
 use Rattle.seg_spec.specs.Types.{Table}
 use Rattle.seg_spec.specs.Value.{Value, Values, count, with_value_at}
 use Rattle.seg_spec.specs.Heap.{live, tag_at}
@@ -16,7 +18,7 @@ use Rattle.seg_spec.specs.Reads.{Place, Holds, HoldsEach, items}
 use Rattle.seg_spec.specs.Index.{Root, Index, OpensIndex, root_named, root_of_type}
 use Rattle.seg_spec.specs.Frozen.{Frozen, root_of_frozen}
 use Rattle.seg_spec.specs.Sound.{Picture, IsHeld, IsPlain, HoldsRoot, kind_with, payload_of, frozen_roots, roots_of, times, positions}
-use Rattle.seg_spec.specs.Shared.{names_in, names_each, IsBelow}
+use Rattle.seg_spec.specs.Shared.{names_in, names_each, IsBelow, with_count}
 use Rattle.seg_spec.specs.Counting.{cells_in, owners_in}
 use Rattle.seg_spec.specs.Roots.{HasFace, item_of, with_item}
 use Rattle.seg_spec.proofs.Heap.LiveBlockLaws.{times-append, there, live-once, times-other}
@@ -25,32 +27,31 @@ use Rattle.seg_spec.proofs.Values.PlaceFrameLaws.{each_left, each_right, each_we
 use Rattle.seg_spec.proofs.Values.OneValueLaws.{HoldsEach-one}
 use Rattle.seg_spec.proofs.Values.PathSplitLaws.{middle, split}
 use Rattle.seg_spec.proofs.Images.RootPartLaws.{count-change_nth, items_nth}
+use Rattle.seg_spec.proofs.Frozen.ReleaseLaws.{frozen_there}
 use Rattle.client_spec.specs.Machine.{Path, State, at_origin}
 use Rattle.client_spec.specs.Pictures.{Pictures, LeadsInImage}
-use Rattle.client_spec.specs.Ties.{spot_of, KeepsBut, places_of, ObjectsStay}
+use Rattle.client_spec.specs.Ties.{places_of, ObjectsStay, FrozenKept}
 use Rattle.test_definitions.proofs.AroundPersistLaws.{surrounded_leads}
 use Rattle.test_definitions.proofs.AlikeRootLaws.{of_type}
 use Rattle.test_definitions.proofs.BlockKindLaws.{OfValues, nodes_tagged, Tagged, roots_tagged}
-use Rattle.test_definitions.proofs.ChangedPlaceLaws.{each_root, own_root, own_root_then, own_below, within, index_kept, index_beside, frozen_kept}
-use Rattle.test_definitions.proofs.FrozenOrderLaws.{IsOneOf}
+use Rattle.test_definitions.proofs.ChangedPlaceLaws.{KeepsOwners, each_owner, own_root, own_root_then, own_below, within, index_kept, index_beside}
+use Rattle.test_definitions.proofs.EndedImageLaws.{frozen_by, its_fewer}
+use Rattle.test_definitions.proofs.FrozenApartLaws.{frozen_apart, among_either, owner_in_roots}
+use Rattle.test_definitions.proofs.FrozenContentLaws.{same_blocks}
+use Rattle.test_definitions.proofs.FrozenOrderLaws.{IsOneOf, each_of}
+use Rattle.test_definitions.proofs.FrozenStayLaws.{SameContent}
 use Rattle.test_definitions.proofs.ListedRootLaws.{found_named, found_of_type, named_as_many}
-use Rattle.test_definitions.proofs.OneFrozenLaws.{frozen-one, is_there}
 use Rattle.test_definitions.proofs.ReachedFrozenLaws.{StandsAt, below_stands, all_reached}
 use Rattle.test_definitions.proofs.RootMemberLaws.{IsAmong, each_among, among_left, among_right, counts, owns, looked_up, as_many}
 
 -- ---- lists of roots
-
-pub among_either : (r : Root) (xs ys : List Root) → IsAmong r (xs ++ ys) → IsAmong r xs ⊎ IsAmong r ys
-among_either r [] ys i = inr i
-among_either r (x ∷ xs) ys (inl e) = inl (inl e)
-among_either r (x ∷ xs) ys (inr i) = elim (among_either r xs ys i) [ inl j ↦ inl (inr j) | inr j ↦ inr j ]
 
 pub cells_of : (P : Place → Type 0) (rs : List Root) (r : Root) → AllByRecursion P (cells_in rs) → IsAmong r rs → AllByRecursion P (names_each r.values)
 cells_of P [] r a i = absurd i
 cells_of P (x ∷ rs) r a (inl e) = subst (λ (y : Root). AllByRecursion P (names_each y.values)) (sym e) (each_left P (names_each x.values) (cells_in rs) a)
 cells_of P (x ∷ rs) r a (inr i) = cells_of P rs r (each_right P (names_each x.values) (cells_in rs) a) i
 
-all_cells : (P : Place → Type 0) (rs : List Root) → ((r : Root) → IsAmong r rs → AllByRecursion P (names_each r.values)) → AllByRecursion P (cells_in rs)
+pub all_cells : (P : Place → Type 0) (rs : List Root) → ((r : Root) → IsAmong r rs → AllByRecursion P (names_each r.values)) → AllByRecursion P (cells_in rs)
 all_cells P [] f = tt
 all_cells P (r ∷ rs) f = joined (names_each r.values) (cells_in rs) (f r (inl refl)) (all_cells P rs (λ x i. f x (inr i)))
   where
@@ -129,22 +130,29 @@ node_tags bytes q held tree = by (word bytes index_kind_word) tree held.laid_out
 
 -- ---- the picture after the instruction
 
+-- shared cells in the place's new value point to frozen objects that there were
+abbrev pub CellsWithin : {others : List Root} {s : State} {bytes : List ℕ} → Pictures others s bytes → List ℕ → Place → Type 0
+CellsWithin {bytes = bytes} p new place = (w : Value) (news : List ℕ) → Holds new p.picture.table place w news → AllByRecursion (IsBelow (word bytes next_word) p.picture.frozen) (names_in w)
+
 module _ {others : List Root} {s s' : State} {old : List ℕ} (p : Pictures others s old) (new : List ℕ) (path : Path) (place : Place) (l : LeadsInImage p path place) (found : Value × ℕ) (begins : at_origin s path.origin ≡ Some found)
-    {value : Value} (its : List ℕ) (holds_it : Holds old p.picture.table place value its) (kept : KeepsBut old new (spot_of p.picture.table place) its) (p' : Pictures others s' new) where
-  -- what else the instruction keeps
-  pub record Beside : Type 0 where
+    {value : Value} (its : List ℕ) (holds_it : Holds old p.picture.table place value its) (kept : KeepsOwners p new place its) (p' : Pictures others s' new) where
+  -- the types and the objects that it keeps
+  pub record ObjectsThere : Type 0 where
     pub tables : p'.picture.table ≡ p.picture.table
     pub names : (name : List ℕ) → is_some (root_named p'.picture.names name) ≡ is_some (root_named p.picture.names name)
     pub uniques : (T : ℕ) → is_some (root_of_type p'.picture.uniques T) ≡ is_some (root_of_type p.picture.uniques T)
     pub stay : ObjectsStay p.picture p'.picture
     pub owned_at : places_of p'.owned ≡ places_of p.owned
-    pub kinds : word new index_kind_word ≡ word old index_kind_word
-    -- shared cells in the place's new value point to frozen objects that there were
-    pub cells : (w : Value) (news : List ℕ) → Holds new p.picture.table place w news → AllByRecursion (IsBelow (word old next_word) p.picture.frozen) (names_in w)
-    -- other blocks stay allocated
-    pub lives : (h : ℕ) → 1 ≤ times h (positions (live old)) → times h its ≡ 0 → 1 ≤ times h (positions (live new))
 
-  module _ (b : Beside) where
+  -- what else the instruction keeps
+  pub record Beside : Type 0 where
+    pub objects : ObjectsThere
+    pub kinds : word new index_kind_word ≡ word old index_kind_word
+    -- other blocks stay allocated, but not all blocks of frozen objects
+    pub lives : (h : ℕ) → 1 ≤ times h (positions (live old)) → times h its ≡ 0 → times h (frozen_apart old p.picture p.held).frozen ≡ 0 → 1 ≤ times h (positions (live new))
+    pub frozen : FrozenKept old new p.picture.table p.picture.frozen p'.picture.frozen
+
+  module _ (b : ObjectsThere) where
     -- an object, and the object that was there before
     pub record WasRoot (a : Root) : Type 0 where
       pub was : Root
@@ -165,35 +173,24 @@ module _ {others : List Root} {s s' : State} {old : List ℕ} (p : Pictures othe
     unique_before T a e = (let c = some_before (b.uniques T) a e in (c.0, c.1, b.stay.uniques T c.0 a c.1 e))
 
     -- the tag of a root's block stays
-    tag_stays : (c : Root) → IsAmong c (roots_of p.picture) → tag_at new (block_of (payload_of c)) ≡ tag_at old (block_of (payload_of c))
-    tag_stays c i = elim (each_root p new path place l found begins its holds_it kept c i) [
+    tag_stays : (c : Root) → IsAmong c (owners_in p.picture) → tag_at new (block_of (payload_of c)) ≡ tag_at old (block_of (payload_of c))
+    tag_stays c i = elim (each_owner p new path place l found begins its holds_it kept c i) [
       | inl e ↦ subst (λ (x : Root). tag_at new (block_of (payload_of x)) ≡ tag_at old (block_of (payload_of x))) (sym e) (own_root p new path place l found begins its holds_it kept).tag_kept
       | inr o ↦ o.is_kept.tag_kept
     ]
-
-    pub owner_root : (c : Root) → IsAmong c (owners_in p.picture) → IsAmong c (roots_of p.picture)
-    owner_root c i = (
-        let r = p.picture in
-        elim (among_either c r.names (r.uniques ++ r.loose) i) [
-          | inl j ↦ among_left c r.names (r.uniques ++ (r.loose ++ frozen_roots r)) j
-          | inr k ↦ elim (among_either c r.uniques r.loose k) [
-            | inl j ↦ among_right c r.names (r.uniques ++ (r.loose ++ frozen_roots r)) (among_left c r.uniques (r.loose ++ frozen_roots r) j)
-            | inr j ↦ among_right c r.names (r.uniques ++ (r.loose ++ frozen_roots r)) (among_right c r.uniques (r.loose ++ frozen_roots r) (among_left c r.loose (frozen_roots r) j))
-          ]
-        ])
 
     -- ---- loose objects
 
     -- an object that registers own, at the position of one that they owned
     plain_before : (c a : Root) → IsAmong c (owners_in p.picture) → IsPlain c → IsPlain a → a.at ≡ c.at → (blocks : List ℕ) → HoldsRoot new p'.picture.table a blocks → HasFace c a
     plain_before c a i pc pa at blocks h =
-        let o = owns old p.picture p.held c p.held.roots (owner_root c i) in
+        let o = owns old p.picture p.held c p.held.roots (owner_in_roots p.picture c i) in
         let mine : payload_of c ≡ c.at = (let e = ap length pc.no_words in omega (arith, e)) in
         let theirs : payload_of a ≡ a.at = (let e = ap length pa.no_words in omega (arith, e)) in
         let tag_c : tag_at old (block_of (payload_of c)) ≡ tag_of Kind.object c.type = o.holds_it.block.has_tag ∙ (λ j. tag_of (kind_with (pc.no_words j) (pc.no_name j)) c.type) in
         let tag_a : tag_at new (block_of (payload_of a)) ≡ tag_of Kind.object a.type = h.block.has_tag ∙ (λ j. tag_of (kind_with (pa.no_words j) (pa.no_name j)) a.type) in
         let same : tag_at new (block_of (payload_of a)) ≡ tag_at new (block_of (payload_of c)) = ap (λ n. tag_at new (block_of n)) (theirs ∙ at ∙ sym mine) in
-        let tags : tag_of Kind.object a.type ≡ tag_of Kind.object c.type = sym tag_a ∙ same ∙ tag_stays c (owner_root c i) ∙ tag_c in
+        let tags : tag_of Kind.object a.type ≡ tag_of Kind.object c.type = sym tag_a ∙ same ∙ tag_stays c i ∙ tag_c in
         record {
           same_name = pa.no_name ∙ sym pc.no_name;
           same_words = pa.no_words ∙ sym pc.no_words;
@@ -263,22 +260,23 @@ module _ {others : List Root} {s s' : State} {old : List ℕ} (p : Pictures othe
           ]
         ])
 
-    -- ---- shared cells
-
     pub items_faced : (c a : Root) → HasFace c a → {vs : Values} {blocks : List ℕ} → HoldsEach new p'.picture.table (items p'.picture.table a.at a.type (count a.values)) vs blocks
         → HoldsEach new p.picture.table (items p.picture.table c.at c.type (count c.values)) vs blocks
     items_faced c a f {vs = vs} {blocks = blocks} h = (
         let t = subst (λ (z : Table). HoldsEach new z (items z a.at a.type (count a.values)) vs blocks) b.tables h in
         subst (λ ps. HoldsEach new p.picture.table ps vs blocks) (λ j. items p.picture.table (f.same_at j) (f.same_type j) (f.same_count j)) t)
 
-    pub cells_below : (a : Root) → IsAmong a (owners_in p'.picture) → (a_there : IsAmong a (roots_of p'.picture)) → AllByRecursion (IsBelow (word old next_word) p.picture.frozen) (names_each a.values)
-    cells_below a i there_is =
-        let w = was_root a i in
+  module _ (b : Beside) where
+    -- ---- shared cells
+
+    pub cells_below : CellsWithin p new place → (a : Root) → IsAmong a (owners_in p'.picture) → (a_there : IsAmong a (roots_of p'.picture)) → AllByRecursion (IsBelow (word old next_word) p.picture.frozen) (names_each a.values)
+    cells_below cells a i there_is =
+        let w = was_root b.objects a i in
         let c = w.was in
-        let h = holds_after a there_is in
-        let here = items_faced c a w.face h.1.values in
+        let h = holds_after b.objects a there_is in
+        let here = items_faced b.objects c a w.face h.1.values in
         let named = cells_of (IsBelow (word old next_word) p.picture.frozen) (owners_in p.picture) c p.counted.counted.named w.among in
-        elim (each_root p new path place l found begins its holds_it kept c (owner_root c w.among)) [
+        elim (each_owner p new path place l found begins its holds_it kept c w.among) [
           | inl e ↦ changed c e named here
           | inr o ↦ (
               let k = o.is_kept in
@@ -300,41 +298,57 @@ module _ {others : List Root} {s s' : State} {old : List ℕ} (p : Pictures othe
             let values = subst (λ k. HoldsEach new p.picture.table (items p.picture.table l.root.at l.root.type k)
             (with_item l.root l.item (with_value_at path.selectors cut.value)).values then_is.holds_then.inside) same then_is.holds_then.values in
             let below = own_below p new path place l found begins its holds_it kept (word old next_word) p.picture.frozen (subst (λ (x : Root). AllByRecursion (IsBelow (word old next_word) p.picture.frozen) (names_each x.values)) e named)
-            cut.value (b.cells cut.value cut.its cut.holds_it) in
+            cut.value (cells cut.value cut.its cut.holds_it) in
             subst (λ vs. AllByRecursion (IsBelow (word old next_word) p.picture.frozen) (names_each vs)) (HoldsEach-one new p.picture.table values here').0 below
 
     -- ---- frozen objects
 
-    pub owner_after : (c : Root) → IsAmong c (owners_in p'.picture) → IsAmong c (roots_of p'.picture)
-    owner_after c i = (
-        let r = p'.picture in
-        elim (among_either c r.names (r.uniques ++ r.loose) i) [
-          | inl j ↦ among_left c r.names (r.uniques ++ (r.loose ++ frozen_roots r)) j
-          | inr k ↦ elim (among_either c r.uniques r.loose k) [
-            | inl j ↦ among_right c r.names (r.uniques ++ (r.loose ++ frozen_roots r)) (among_left c r.uniques (r.loose ++ frozen_roots r) j)
-            | inr j ↦ among_right c r.names (r.uniques ++ (r.loose ++ frozen_roots r)) (among_right c r.uniques (r.loose ++ frozen_roots r) (among_left c r.loose (frozen_roots r) j))
-          ]
-        ])
-
     stands : (q : Place) → IsBelow (word old next_word) p.picture.frozen q → StandsAt q.at p.picture.frozen
     stands q c = (below_stands (word old next_word) p.picture.frozen q c).0
 
-    -- an object at the position of a frozen object is that object
-    pub same_frozen : (f g : Frozen) → IsOneOf f p'.picture.frozen → IsOneOf g p.picture.frozen → f.at ≡ g.at → f ≡ g
-    same_frozen f g i j e =
-        let mine = is_there new p'.picture p'.held f i in
-        let k = frozen_kept p new path place l found begins its holds_it kept g j in
-        frozen-one new p.picture.table f g mine.its k.blocks e (subst (λ (z : Table). HoldsRoot new z (root_of_frozen f) mine.its) b.tables mine.holds) k.still
+    -- what is kept of a frozen object that stays
+    object_kept : (f g : Frozen) → IsOneOf f p.picture.frozen → IsOneOf g p'.picture.frozen → g.at ≡ f.at → (g ≡ with_count f g.count) × AllByRecursion (KeepsBlockAround old new f.at 4) (b.frozen.theirs f.at)
+    object_kept f g i j at =
+        each_of (λ (y : Frozen). y.at ≡ f.at → (y ≡ with_count f y.count) × AllByRecursion (KeepsBlockAround old new f.at 4) (b.frozen.theirs f.at)) g p'.picture.frozen j
+        (each_of (λ (x : Frozen). AllByRecursion (λ (y : Frozen). y.at ≡ x.at → (y ≡ with_count x y.count) × AllByRecursion (KeepsBlockAround old new x.at 4) (b.frozen.theirs x.at)) p'.picture.frozen) f p.picture.frozen i b.frozen.each) at
 
-    pub frozen_before : (f : Frozen) → IsOneOf f p'.picture.frozen → IsOneOf f p.picture.frozen
-    frozen_before f i =
+    pub content : (f g : Frozen) → IsOneOf f p.picture.frozen → IsOneOf g p'.picture.frozen → g.at ≡ f.at → SameContent f g
+    content f g i j at =
+        let same = (object_kept f g i j at).0 in
+        record { at = at; type = ap (λ (x : Frozen). x.type) same; number = ap (λ (x : Frozen). x.number) same; value = ap (λ (x : Frozen). x.value) same }
+
+    pub its_kept : (f g : Frozen) → IsOneOf f p.picture.frozen → IsOneOf g p'.picture.frozen → g.at ≡ f.at → AllByRecursion (KeepsBlockAround old new f.at 4) (b.frozen.theirs f.at)
+    its_kept f g i j at = (object_kept f g i j at).1
+
+    pub there_before : (f : Frozen) → IsOneOf f p.picture.frozen → HoldsRoot old p.picture.table (root_of_frozen f) (b.frozen.theirs f.at)
+    there_before f i = each_of (λ (x : Frozen). HoldsRoot old p.picture.table (root_of_frozen x) (b.frozen.theirs x.at)) f p.picture.frozen i b.frozen.holds
+
+    -- its blocks are blocks of frozen objects
+    pub its_frozen : (f : Frozen) → IsOneOf f p.picture.frozen → (h : ℕ) → times h (b.frozen.theirs f.at) ≤ times h (frozen_apart old p.picture p.held).frozen
+    its_frozen f i h =
+        let apart = frozen_apart old p.picture p.held in
+        let all = frozen_by old p.picture.table b.frozen.theirs p.picture.frozen apart.frozen apart.holds_frozen b.frozen.holds in
+        omega (arith, its_fewer b.frozen.theirs f p.picture.frozen i h, ap (times h) all)
+
+    pub its_live : (f : Frozen) → IsOneOf f p.picture.frozen → (h : ℕ) → times h (b.frozen.theirs f.at) ≤ times h (positions (live old))
+    its_live f i h = omega (arith, its_frozen f i h, (frozen_apart old p.picture p.held).counts h)
+
+    -- an object that stays owns the blocks that it owned
+    pub blocks_stay : (f g : Frozen) → IsOneOf f p.picture.frozen → IsOneOf g p'.picture.frozen → g.at ≡ f.at → {blocks : List ℕ} → HoldsRoot new p'.picture.table (root_of_frozen g) blocks → blocks ≡ b.frozen.theirs f.at
+    blocks_stay f g i j at {blocks = blocks} h =
+        let before = frozen_there old p.picture.table f (b.frozen.theirs f.at) (there_before f i) in
+        let after = frozen_there new p.picture.table g blocks (subst (λ (z : Table). HoldsRoot new z (root_of_frozen g) blocks) b.objects.tables h) in
+        same_blocks (word old allocator_word) old new p.picture.table p.held.laid_out.is_table p.held.laid_out.heap f (b.frozen.theirs f.at) before (its_live f i) (its_kept f g i j at) g blocks at after
+
+    -- each frozen object was there before
+    pub frozen_before : CellsWithin p new place → (f : Frozen) → IsOneOf f p'.picture.frozen → StandsAt f.at p.picture.frozen
+    frozen_before within_place f i =
         let falls : AllByRecursion (λ (g : Frozen). AllByRecursion (λ (q : Place). StandsAt q.at p.picture.frozen) (names_in g.value)) p.picture.frozen =
         each_weaker (λ (g : Frozen). AllByRecursion (IsBelow g.number p.picture.frozen) (names_in g.value)) _ (λ g a. each_weaker (IsBelow g.number p.picture.frozen) (λ (q : Place). StandsAt q.at p.picture.frozen)
         (λ q c. (below_stands g.number p.picture.frozen q c).0) (names_in g.value) a) p.picture.frozen p.counted.counted.falling in
         let cells = all_cells (λ (q : Place). StandsAt q.at p.picture.frozen) (owners_in p'.picture)
-        (λ a j. each_weaker (IsBelow (word old next_word) p.picture.frozen) (λ (q : Place). StandsAt q.at p.picture.frozen) stands (names_each a.values) (cells_below a j (owner_after a j))) in
-        let r = all_reached (word new next_word) p'.picture.frozen (cells_in (owners_in p'.picture)) p'.counted.counted p.picture.frozen falls cells (λ f g i j e. ap (λ (x : Frozen). x.value) (same_frozen f g i j e)) f i in
-        subst (λ g. IsOneOf g p.picture.frozen) (sym (same_frozen f r.object i r.among (sym r.at_is))) r.among
+        (λ a j. each_weaker (IsBelow (word old next_word) p.picture.frozen) (λ (q : Place). StandsAt q.at p.picture.frozen) stands (names_each a.values) (cells_below within_place a j (owner_in_roots p'.picture a j))) in
+        all_reached (word new next_word) p'.picture.frozen (cells_in (owners_in p'.picture)) p'.counted.counted p.picture.frozen falls cells (λ f g i j e. (content g f j i e).value) f i
 
     -- ---- nodes of the index
 
@@ -345,7 +359,7 @@ module _ {others : List Root} {s s' : State} {old : List ℕ} (p : Pictures othe
         let theirs = node_tags new p'.picture p'.held tree' in
         let kept_nodes = index_kept p new path place l found begins its holds_it kept in
         let fewer : (k : ℕ) → times k p.held.index_blocks ≤ times k p'.held.index_blocks = λ k. still k (cases_eq (times k p.held.index_blocks) 0) kept_nodes mine.0 in
-        same_members p.held.index_blocks p'.held.index_blocks fewer (theirs.1 ∙ named_as_many p'.picture.names p.picture.names p'.held.laid_out.names.ascending p.held.laid_out.names.ascending b.names ∙ sym mine.1) h some
+        same_members p.held.index_blocks p'.held.index_blocks fewer (theirs.1 ∙ named_as_many p'.picture.names p.picture.names p'.held.laid_out.names.ascending p.held.laid_out.names.ascending b.objects.names ∙ sym mine.1) h some
       where
         still : (k : ℕ) → (times k p.held.index_blocks ≡ 0) ⊎ (times k p.held.index_blocks ≢ 0) → AllByRecursion (KeepsBlock old new) p.held.index_blocks → AllByRecursion (λ h. tag_at old h ≡ tag_of Kind.index_node 0) p.held.index_blocks
             → times k p.held.index_blocks ≤ times k p'.held.index_blocks
@@ -354,5 +368,5 @@ module _ {others : List Root} {s s' : State} {old : List ℕ} (p : Pictures othe
             let some_k : 1 ≤ times k p.held.index_blocks = omega (arith, more) in
             let tag : tag_at new k ≡ tag_of Kind.index_node 0 = (there (KeepsBlock old new) k p.held.index_blocks ks some_k).has_tag ∙ there (λ h. tag_at old h ≡ tag_of Kind.index_node 0) k p.held.index_blocks ts some_k in
             let beside = index_beside p new path place l found begins its holds_it kept k some_k in
-            let there_is = of_index new p'.picture p'.held 6 (omega arith, omega arith) k (b.lives k beside.0 beside.1) (omega (arith, tag)) in
+            let there_is = of_index new p'.picture p'.held 6 (omega arith, omega arith) k (b.lives k beside.0 beside.1 beside.2) (omega (arith, tag)) in
             omega (arith, there_is, counts old p.picture p.held k, live-once old (word old allocator_word) p.held.laid_out.heap k)

@@ -56,6 +56,10 @@ module _ (next next_too : ℕ) (gone kept : List Place) (fs gs : List Frozen) (f
 pub turned : {f g : Frozen} → SameContent f g → SameContent g f
 turned s = record { at = sym s.at; type = sym s.type; number = sym s.number; value = sym s.value }
 
+-- two objects with the content of a third
+pub then_same : {f g h : Frozen} → SameContent f g → SameContent f h → SameContent g h
+then_same a b = record { at = b.at ∙ sym a.at; type = b.type ∙ sym a.type; number = b.number ∙ sym a.number; value = b.value ∙ sym a.value }
+
 names_of_parts : (p : ℕ) (f : Frozen) (before after : List Frozen) → times_named p (names_of (before ++ f ∷ after)) ≡ times_named p (names_in f.value) + times_named p (names_of (before ++ after))
 names_of_parts p f [] after = named-append p (names_in f.value) (names_of after)
 names_of_parts p f (b ∷ before) after =

@@ -38,7 +38,7 @@ whole old new h k = record {
   payload = k.payload (h + 16) (payload_size old h) (omega arith) (omega arith) (inr (omega arith));
 }
 
-same_whole : (old new : List ℕ) (h : ℕ) → new ≡ old → KeepsBlock old new h
+pub same_whole : (old new : List ℕ) (h : ℕ) → new ≡ old → KeepsBlock old new h
 same_whole old new h e = subst (λ z. KeepsBlock old z h) (sym e) (record { live = refl; has_tag = refl; room = omega arith; payload = refl })
 
 pub new_keeps : (constants : List Constant) (others : List Root) (moves : List Move) (i : Instruction) (x y : Situation) (answer : Answer)

@@ -144,7 +144,7 @@ type_first m ms = go (m.type == m.type) refl
     go true e = refl
     go false e = (let other : m.type ≢ m.type = grind (arith, nat_tests) in absurd (other refl))
 
-type_is : (T : ℕ) (r : Root) (rs : List Root) → root_of_type rs T ≡ Some r → r.type ≡ T
+pub type_is : (T : ℕ) (r : Root) (rs : List Root) → root_of_type rs T ≡ Some r → r.type ≡ T
 type_is T r [] e = cc
 type_is T r (x ∷ rs) e = go (type_is T r rs) (T == x.type) refl e
   where

@@ -139,18 +139,18 @@ module _ (bytes : List ℕ) where
 
 -- ---- what is freed
 
-raised_one : ℕ → Frozen → Frozen
+pub raised_one : ℕ → Frozen → Frozen
 raised_one p f = cond (eqb f.at p) (with_count f (suc f.count)) f
 
-record WasRaised (p : ℕ) (x : Frozen) (fs : List Frozen) : Type 0 where
-  before : Frozen
-  among : IsOneOf before fs
-  is : x ≡ raised_one p before
-  at : x.at ≡ before.at
-  number : x.number ≡ before.number
-  value : x.value ≡ before.value
+pub record WasRaised (p : ℕ) (x : Frozen) (fs : List Frozen) : Type 0 where
+  pub before : Frozen
+  pub among : IsOneOf before fs
+  pub is : x ≡ raised_one p before
+  pub at : x.at ≡ before.at
+  pub number : x.number ≡ before.number
+  pub value : x.value ≡ before.value
 
-was_raised : (p : ℕ) (x : Frozen) (fs : List Frozen) → IsOneOf x (raised p fs) → WasRaised p x fs
+pub was_raised : (p : ℕ) (x : Frozen) (fs : List Frozen) → IsOneOf x (raised p fs) → WasRaised p x fs
 unfolding raised_one
 was_raised p x [] i = absurd i
 was_raised p x (f ∷ fs) (inl e) = record {

@@ -12,14 +12,15 @@ use Rattle.client_spec.specs.Answer.{success}
 use Rattle.client_spec.specs.Pictures.{Pictures, value_through}
 use Rattle.client_spec.specs.Ties.{MovesBy, SharesFrozen}
 use Rattle.client_spec.specs.OnImages.{Move, Situation, RowOn}
-use Rattle.test_definitions.proofs.OneFrozenLaws.{reordered}
+use Rattle.test_definitions.proofs.OneFrozenLaws.{Reordered, reordered}
 use Rattle.test_definitions.proofs.OneReturnLaws.{one_through}
 use Rattle.test_definitions.proofs.OneState.{as_pictured, plain_same}
 use Rattle.test_definitions.proofs.OneRow.{itself}
 
-one_cell : (constants : List Constant) (i : Instruction) {others : List Root} {s : State} (bytes new other : List ℕ) (p q : Pictures others s bytes) (a : SharesFrozen constants i p new) (b : SharesFrozen constants i q other)
-    → a.cell ≡ b.cell
-one_cell constants i {s = s} bytes new other p q a b =
+-- the same from two images with the same frozen objects
+pub cell_in_both : (constants : List Constant) (i : Instruction) {others : List Root} {s : State} (first second new other : List ℕ) (p : Pictures others s first) (q : Pictures others s second) → Reordered p.picture.frozen q.picture.frozen
+    → (a : SharesFrozen constants i p new) (b : SharesFrozen constants i q other) → a.cell ≡ b.cell
+cell_in_both constants i {s = s} first second new other p q order a b =
     let through : Path → List Frozen → Option Value = λ z fs. (at_origin s z.origin >>= λ found. value_through fs found.0 z.selectors) in
     let paths : a.path ≡ b.path = (let f : Some a.path ≡ Some b.path = sym a.path_is ∙ b.path_is in cc) in
     let same : through a.path p.picture.frozen ≡ through a.path q.picture.frozen = under (at_origin s a.path.origin) a.path.selectors in
@@ -28,7 +29,11 @@ one_cell constants i {s = s} bytes new other p q a b =
   where
     under : (o : Option (Value × ℕ)) (xs : List Selector) → (o >>= λ found. value_through p.picture.frozen found.0 xs) ≡ (o >>= λ found. value_through q.picture.frozen found.0 xs)
     under None xs = refl
-    under (Some found) xs = one_through p.picture.frozen q.picture.frozen (reordered bytes (word bytes next_word) p.picture q.picture p.held q.held p.counted q.counted) xs found.0
+    under (Some found) xs = one_through p.picture.frozen q.picture.frozen order xs found.0
+
+one_cell : (constants : List Constant) (i : Instruction) {others : List Root} {s : State} (bytes new other : List ℕ) (p q : Pictures others s bytes) (a : SharesFrozen constants i p new) (b : SharesFrozen constants i q other)
+    → a.cell ≡ b.cell
+one_cell constants i bytes new other p q a b = cell_in_both constants i bytes bytes new other p q (reordered bytes (word bytes next_word) p.picture q.picture p.held q.held p.counted q.counted) a b
 
 pub shares : (constants : List Constant) (others : List Root) (moves : List Move) (i : Instruction) (x y : Situation) (row : RowOn constants others moves i x success y) → i.operation ≡ Operation.Share
     → SharesFrozen constants i row.before.pictured y.image

@@ -2,15 +2,17 @@
 use Rattle.std.proofs.Common.{inl, inr, subst, ◌⊎◌, ◌≡◌, ℕ, zero, suc, ◌+◌, ℤ, Bool, true, false, List, [], ◌∷◌, Option, Some, None, refl, sym, ap, ◌∙◌}
 use Rattle.std.specs.Prelude.{slice_get}
 use Rattle.seg_spec.specs.Types.{Form, Table, size}
-use Rattle.seg_spec.specs.Value.{Label, Value, Selector, index_of}
+use Rattle.seg_spec.specs.Value.{Label, Value, Selector, index_of, default_of, value_at, with_value_at}
 use Rattle.seg_spec.specs.Block.{has_buffer}
 use Rattle.seg_spec.specs.Reads.{Place, Opened, Opens, Leads, here, into, places_of, fields}
 use Rattle.client_spec.specs.declared.table.Operation.{Operation}
 use Rattle.client_spec.specs.Syntax.{Constant}
-use Rattle.client_spec.specs.Machine.{◌>>=◌, Path, State, at_origin, path_value, part_type, type_along}
-use Rattle.client_spec.specs.Answer.{Answer, path_of, path_form, integer_at, text_in, items_in, int_in}
+use Rattle.client_spec.specs.Machine.{◌>>=◌, Path, State, at_origin, path_value, path_type, put_at, part_type, type_along}
+use Rattle.client_spec.specs.Answer.{Answer, success, path_of, path_form, integer_at, text_in, items_in, list_item, int_in}
 use Rattle.client_spec.specs.Effect.{effect}
-use Rattle.client_spec.proofs.TypedStates.ValueLaws.{Some_inj}
+use Rattle.client_spec.proofs.TypedStates.ValueLaws.{Some_inj, bind_some}
+use Rattle.client_spec.proofs.TypedStates.StateLaws.{origin_put_same}
+use Rattle.client_spec.proofs.TypedStates.PutLaws.{put_at_is, put_same}
 
 -- the instruction changes the place that register b refers to
 abbrev pub at_place : Operation → Bool
@@ -82,6 +84,30 @@ shrinks_buffer constants a b c number room X r e p k is form = go (has_buffer (S
     go true f o g = refl
     go false f None g = absurd (let h : None ≡ Some r = cc in cc)
     go false f (Some v) g = absurd (let h : None ≡ Some r = cc in cc)
+
+-- CLEAR puts a default value at the path
+pub clears_to : (constants : List Constant) (a b c : ℕ) (number : ℤ) (room : Bool) (X : State) (r : Answer × State) → effect constants Operation.Clear a b c number room X ≡ Some r → (p : Path) → path_of X b ≡ Some p
+    → (v : Value) × (T : ℕ) × (path_value X p ≡ Some v) × (r.1 ≡ put_at X p (default_of X.types T))
+unfolding effect
+clears_to constants a b c number room X r e p is = go (path_type X p) refl (path_value X p) refl
+  where
+    go : (o : Option ℕ) → path_type X p ≡ o → (q : Option Value) → path_value X p ≡ q → (v : Value) × (T : ℕ) × (path_value X p ≡ Some v) × (r.1 ≡ put_at X p (default_of X.types T))
+    go None f q g = absurd (let h : None ≡ Some r = cc in cc)
+    go (Some T) f None g = absurd (let h : None ≡ Some r = cc in cc)
+    go (Some T) f (Some v) g = (v, T, g, (let h : Some (success, put_at X p (default_of X.types T)) ≡ Some r = cc in sym (ap (λ (z : Answer × State). z.1) (Some_inj h))))
+
+-- the value that was put at a path is there
+pub put_there : (s : State) (p : Path) (old new : Value) → path_value s p ≡ Some old → path_value (put_at s p new) p ≡ Some new
+put_there s p old new e =
+    let a = bind_some (at_origin s p.origin) (λ (found : Value × ℕ). value_at found.0 p.selectors) old e in
+    ap (λ z. path_value z p) (put_at_is s p a.0.0 new a.0.1 a.1) ∙ ap (λ (o : Option (Value × ℕ)). o >>= λ found. value_at found.0 p.selectors)
+    (origin_put_same s p.origin a.0.0 (with_value_at p.selectors new a.0.0) a.0.1 a.1) ∙ put_same p.selectors a.0.0 old new a.2
+
+-- POPF has a row only for a list
+pub pops_list : (constants : List Constant) (a b c : ℕ) (number : ℤ) (room : Bool) (X : State) (r : Answer × State) → effect constants Operation.PopFront a b c number room X ≡ Some r
+    → (p : Path) (k : Form) → path_of X b ≡ Some p → path_form X p ≡ Some k → list_item k ≡ None → ⊥
+unfolding effect
+pops_list constants a b c number room X r e p k is form none = (let h : None ≡ Some r = cc in cc)
 
 -- POP has a row only for a text or for items
 pub pops_from : (constants : List Constant) (a b c : ℕ) (number : ℤ) (room : Bool) (X : State) (r : Answer × State) → effect constants Operation.PopBack a b c number room X ≡ Some r → (p : Path) → path_of X b ≡ Some p

@@ -9,20 +9,22 @@ use Rattle.seg_spec.specs.Reads.{Place, Holds, HoldsEach, items}
 use Rattle.seg_spec.specs.Heap.{live}
 use Rattle.seg_spec.specs.Block.{block_of}
 use Rattle.seg_spec.specs.Index.{Root, root_named, root_of_type}
-use Rattle.seg_spec.specs.Sound.{positions, payload_of, frozen_roots, roots_of, times}
+use Rattle.seg_spec.specs.Sound.{positions, payload_of, times}
+use Rattle.seg_spec.specs.Counting.{owners_in}
 use Rattle.seg_spec.specs.Roots.{HasFace, item_of}
 use Rattle.seg_spec.proofs.Heap.LiveBlockLaws.{times-append, times-more}
 use Rattle.seg_spec.proofs.Values.PathSplitLaws.{middle, split, nth-append, count_is}
 use Rattle.seg_spec.proofs.Images.RootPartLaws.{items_nth}
 use Rattle.client_spec.specs.Machine.{◌>>=◌, Origin, Path, Register, Object, State, at_origin, owned_by, path_value}
 use Rattle.client_spec.specs.Pictures.{Pictures, LeadsInImage, root_at, root_of_register, object_of, AreOwned}
-use Rattle.client_spec.specs.Ties.{spot_of, KeepsBut, places_of}
+use Rattle.client_spec.specs.Ties.{places_of}
 use Rattle.client_sim.proofs.Objects.OwnedRootLaws.{owned_split}
 use Rattle.test_definitions.proofs.AlikeChangeLaws.{all_fit}
 use Rattle.test_definitions.proofs.AlikeRootLaws.{begun, of_type, of_register}
 use Rattle.test_definitions.proofs.AroundPersistLaws.{surrounded_leads}
-use Rattle.test_definitions.proofs.ChangedPlaceLaws.{own_root, within}
-use Rattle.test_definitions.proofs.ChangedPlaceRowLaws.{Beside, owned_face}
+use Rattle.test_definitions.proofs.ChangedPlaceLaws.{KeepsOwners, own_root, within}
+use Rattle.test_definitions.proofs.ChangedPlaceRowLaws.{ObjectsThere, owned_face}
+use Rattle.test_definitions.proofs.FrozenApartLaws.{owner_in_roots}
 use Rattle.test_definitions.proofs.OwningRegisterLaws.{owners}
 use Rattle.test_definitions.proofs.PersistAlikeLaws.{Fits}
 use Rattle.test_definitions.proofs.RootMemberLaws.{IsAmong, counts, among_left, among_right, owns, looked_up}
@@ -77,13 +79,13 @@ still_owned (Register.Reference p ∷ xs) (Register.Reference q ∷ ys) before a
 still_owned (x ∷ xs) (y ∷ ys) before after e f g at r c is = cc
 
 module _ {others : List Root} {s s' : State} {old : List ℕ} (p : Pictures others s old) (new : List ℕ) (path : Path) (place : Place) (l : LeadsInImage p path place) (found : Value × ℕ) (begins : at_origin s path.origin ≡ Some found)
-    {value : Value} (its : List ℕ) (holds_it : Holds old p.picture.table place value its) (kept : KeepsBut old new (spot_of p.picture.table place) its) (p' : Pictures others s' new)
-    (b : Beside p new path place l found begins its holds_it kept p')
+    {value : Value} (its : List ℕ) (holds_it : Holds old p.picture.table place value its) (kept : KeepsOwners p new place its) (p' : Pictures others s' new)
+    (b : ObjectsThere p new path place l found begins its holds_it kept p')
     (same_owners : owners s'.registers ≡ owners s.registers) where
   -- the root in which the path begins
   pub record RootThen (o : Origin) : Type 0 where
     pub root : Root
-    pub among : IsAmong root (roots_of p'.picture)
+    pub owner : IsAmong root (owners_in p'.picture)
     pub face : HasFace l.root root
     pub whole : Value
     pub type : ℕ
@@ -108,7 +110,7 @@ module _ {others : List Root} {s s' : State} {old : List ℕ} (p : Pictures othe
           let r = p'.picture in
           record {
             root = a;
-            among = among_left a r.names (r.uniques ++ (r.loose ++ frozen_roots r)) (looked_up name a r.names f).0;
+            owner = among_left a r.names (r.uniques ++ r.loose) (looked_up name a r.names f).0;
             face = face;
             whole = v.0;
             type = a.type;
@@ -129,7 +131,7 @@ module _ {others : List Root} {s s' : State} {old : List ℕ} (p : Pictures othe
           let r = p'.picture in
           record {
             root = a;
-            among = among_right a r.names (r.uniques ++ (r.loose ++ frozen_roots r)) (among_left a r.uniques (r.loose ++ frozen_roots r) (of_type r.uniques T a f));
+            owner = among_right a r.names (r.uniques ++ r.loose) (among_left a r.uniques r.loose (of_type r.uniques T a f));
             face = face;
             whole = v.0;
             type = T;
@@ -147,8 +149,7 @@ module _ {others : List Root} {s s' : State} {old : List ℕ} (p : Pictures othe
       let r = p'.picture in
       record {
         root = a;
-        among = among_right a r.names (r.uniques ++ (r.loose ++ frozen_roots r)) (among_right a r.uniques (r.loose ++ frozen_roots r)
-            (among_left a r.loose (frozen_roots r) (subst (IsAmong a) (sym p'.loose) (among_right a others p'.owned j))));
+        owner = among_right a r.names (r.uniques ++ r.loose) (among_right a r.uniques r.loose (subst (IsAmong a) (sym p'.loose) (among_right a others p'.owned j)));
         face = face;
         whole = q.value;
         type = a.type;
@@ -169,7 +170,7 @@ module _ {others : List Root} {s s' : State} {old : List ℕ} (p : Pictures othe
   value_there =
       let t = root_then path.origin l.begins in
       let a = t.root in
-      let o = owns new p'.picture p'.held a p'.held.roots t.among in
+      let o = owns new p'.picture p'.held a p'.held.roots (owner_in_roots p'.picture a t.owner) in
       let n = count l.root.values in
       let h1 = subst (λ (z : Table). HoldsEach new z (items z a.at a.type (count a.values)) a.values o.holds_it.inside) b.tables o.holds_it.values in
       let here : HoldsEach new p.picture.table (items p.picture.table l.root.at l.root.type n) a.values o.holds_it.inside =

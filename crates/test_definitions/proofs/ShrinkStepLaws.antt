@@ -39,7 +39,7 @@ use Rattle.test_definitions.proofs.PathOriginLaws.{at_place}
 use Rattle.test_definitions.proofs.PersistAlikeLaws.{Fits, open_as_one, persist_each_alike, persist_long}
 use Rattle.test_definitions.proofs.PlaceRowLaws.{refers_to, buffer_there}
 use Rattle.test_definitions.proofs.PlaceStepLaws.{Touched}
-use Rattle.test_definitions.proofs.PlaceTwoStepLaws.{Side, ChangesWithin, PlaceSteps, mine, theirs, place_step}
+use Rattle.test_definitions.proofs.PlaceTwoStepLaws.{Side, ChangesWithin, PlaceSteps, mine, theirs, within_whole, place_step}
 use Rattle.test_definitions.proofs.TextStepLaws.{members_one, kept_without}
 
 -- ---- labels
@@ -171,7 +171,7 @@ module _ (constants : List Constant) (others : List Root) (moves : List Move) (i
 
   shrunk : (second : Answer) (stand : StandAlike others x z) (r : RowOn constants others moves i x success y) (q : RowOn constants others moves i z second w) → StaysAlike others success second y w
   shrunk second stand r q =
-      place_step constants others moves i no_names no_uniques x z y w success second stand r q keeps found (λ s bytes p spot own t. subst (λ o. TouchesBy constants i p o spot own) is t) steps
+      place_step constants others moves i no_names no_uniques x z y w success second stand r q keeps found false (λ s bytes p spot own t. subst (λ o. TouchesBy constants i p o spot own) is t) steps
     where
       keeps : moves_owners i.operation success ≡ false
       keeps = ap (λ o. moves_owners o success) is
@@ -188,7 +188,7 @@ module _ (constants : List Constant) (others : List Root) (moves : List Move) (i
       table_form : {bytes : List ℕ} (p : Pictures others r.before.plain bytes) (place : Place) (form : Form) → LedTo constants i p place form → form_at p.picture.table place.type ≡ Some form
       table_form p place form l = ap (λ (k : Table). form_at k place.type) p.types ∙ l.form_is
 
-      within_place : {bytes new : List ℕ} (p : Pictures others r.before.plain bytes) (place : Place) (form : Form) (its : List ℕ) → has_buffer (Some form) ≡ true → Touched constants i p new place form its
+      within_place : {bytes new : List ℕ} (p : Pictures others r.before.plain bytes) (place : Place) (form : Form) (its : List ℕ) → has_buffer (Some form) ≡ true → Touched constants i false p new place form its
           → KeepsBy constants i p i.operation new
           → ChangesBlocks constants i p success new → ChangesWithin p new place its
       within_place {bytes = bytes} {new = new} p place form its buffer t k c =
@@ -203,7 +203,7 @@ module _ (constants : List Constant) (others : List Root) (moves : List Move) (i
             lives = λ h some none. shrink_lives constants i p new is found c place form l h some (buffer_in bytes p.picture.table place form f buffer t.holds_it h none);
           }
 
-      steps : (place : Place) (form : Form) (its : List ℕ) (t : Touched constants i side.before y.image place form its) (u : Touched constants i other.before w.image place form its)
+      steps : (place : Place) (form : Form) (its : List ℕ) (t : Touched constants i false side.before y.image place form its) (u : Touched constants i false other.before w.image place form its)
           → PlaceSteps constants others moves i no_names no_uniques x z y w success second stand r q keeps found place form its t u
       steps place form its t u =
           let buffer = buffer_there constants i x.state x.image r.before success y.state r.row is place form t.led_to in
@@ -213,8 +213,10 @@ module _ (constants : List Constant) (others : List Root) (moves : List Move) (i
           let their_stay = subst (λ (k : Table). KeepsAllParts z.image w.image k place) one_table (parts_stay other.before found other.ties.kept_by place form u.led_to u.holds_it) in
           let like = (led_in_both constants i stand.images side.before other.before side.at other.at found place form t.led_to).alike_at in
           record {
-            within_first = within_place side.before place form its buffer t side.ties.kept_by side.blocks;
-            within_second = within_place other.before place form its buffer u other.ties.kept_by theirs_success;
+            within_first = within_whole constants others moves i no_names no_uniques x z y w success second stand r q keeps found side place form its t
+                (within_place side.before place form its buffer t side.ties.kept_by side.blocks);
+            within_second = within_whole constants others moves i no_names no_uniques x z y w success second stand r q keeps found other place form its u
+                (within_place other.before place form its buffer u other.ties.kept_by theirs_success);
             inner = λ a b xs ys h fits k fits_too m n same forth back once once_too.
                 buffer_alike x.image y.image z.image w.image side.before.picture.table place form (table_form side.before place form t.led_to) buffer like t.holds_it mine_stay their_stay h fits k fits_too m n same forth back once once_too;
           }

@@ -32,7 +32,7 @@ use Rattle.test_definitions.proofs.PathOriginLaws.{at_place}
 use Rattle.test_definitions.proofs.PersistAlikeLaws.{Fits, open_as_one}
 use Rattle.test_definitions.proofs.PlaceRowLaws.{refers_to, number_there}
 use Rattle.test_definitions.proofs.PlaceStepLaws.{Touched}
-use Rattle.test_definitions.proofs.PlaceTwoStepLaws.{Side, ChangesWithin, PlaceSteps, mine, theirs, place_step}
+use Rattle.test_definitions.proofs.PlaceTwoStepLaws.{Side, ChangesWithin, PlaceSteps, mine, theirs, within_whole, place_step}
 
 -- ---- numbers and texts
 
@@ -106,7 +106,7 @@ module _ (constants : List Constant) (others : List Root) (moves : List Move) (i
 
   stored : (second : Answer) (stand : StandAlike others x z) (r : RowOn constants others moves i x success y) (q : RowOn constants others moves i z second w) → StaysAlike others success second y w
   stored second stand r q =
-      place_step constants others moves i no_names no_uniques x z y w success second stand r q keeps found (λ s bytes p spot own t. subst (λ o. TouchesBy constants i p o spot own) is t) steps
+      place_step constants others moves i no_names no_uniques x z y w success second stand r q keeps found false (λ s bytes p spot own t. subst (λ o. TouchesBy constants i p o spot own) is t) steps
     where
       keeps : moves_owners i.operation success ≡ false
       keeps = ap (λ o. moves_owners o success) is
@@ -127,7 +127,7 @@ module _ (constants : List Constant) (others : List Root) (moves : List Move) (i
         lives = λ h some none. subst (λ bs. 1 ≤ times h (positions bs)) (sym lives) some;
       }
 
-      steps : (place : Place) (form : Form) (its : List ℕ) (t : Touched constants i side.before y.image place form its) (u : Touched constants i other.before w.image place form its)
+      steps : (place : Place) (form : Form) (its : List ℕ) (t : Touched constants i false side.before y.image place form its) (u : Touched constants i false other.before w.image place form its)
           → PlaceSteps constants others moves i no_names no_uniques x z y w success second stand r q keeps found place form its t u
       steps place form its t u =
           let number : form ≡ Form.i64 = number_there constants i x.state x.image r.before success y.state r.row is place form t.led_to in
@@ -135,8 +135,10 @@ module _ (constants : List Constant) (others : List Root) (moves : List Move) (i
           let g : form_at other.before.picture.table place.type ≡ Some Form.i64 = ap (λ (k : Table). form_at k place.type) other.before.types ∙ u.led_to.form_is ∙ ap Some number in
           let theirs_success : ChangesBlocks constants i other.before success w.image = subst (λ a. ChangesBlocks constants i other.before a w.image) (sym (one constants others moves i x z y w success second stand r q).0) other.blocks in
           record {
-            within_first = within_place side.before place its f (same_live constants i side.before y.image is side.blocks);
-            within_second = within_place other.before place its g (same_live constants i other.before w.image is theirs_success);
+            within_first = within_whole constants others moves i no_names no_uniques x z y w success second stand r q keeps found side place form its t
+                (within_place side.before place its f (same_live constants i side.before y.image is side.blocks));
+            within_second = within_whole constants others moves i no_names no_uniques x z y w success second stand r q keeps found other place form its u
+                (within_place other.before place its g (same_live constants i other.before w.image is theirs_success));
             inner = λ a b xs ys h fits k fits_too m n same forth back once once_too. (
                 let mine_held = leaf_held y.image side.before.picture.table place Form.i64 tt f h in
                 let their_held = leaf_held w.image side.before.picture.table place Form.i64 tt f k in

@@ -38,7 +38,7 @@ use Rattle.test_definitions.proofs.OwningRegisterLaws.{moves_owners, changes_nam
 use Rattle.test_definitions.proofs.PathOriginLaws.{at_place}
 use Rattle.test_definitions.proofs.PlaceRowLaws.{refers_to, text_there}
 use Rattle.test_definitions.proofs.PlaceStepLaws.{Touched}
-use Rattle.test_definitions.proofs.PlaceTwoStepLaws.{Side, ChangesWithin, PlaceSteps, mine, theirs, place_step}
+use Rattle.test_definitions.proofs.PlaceTwoStepLaws.{Side, ChangesWithin, PlaceSteps, mine, theirs, within_whole, place_step}
 use Rattle.test_definitions.proofs.StoreStepLaws.{leaf_held, leaf_alike}
 
 -- ---- blocks that stay allocated
@@ -63,24 +63,33 @@ or_some : {A : Type 0} (o p : Option A) (x : A) → option_or o p ≡ Some x →
 or_some None p x e = inr e
 or_some (Some y) p x e = inl e
 
+-- the blocks after a request: those before it, and a new one if it got one
+abbrev pub Grants : List Span → Granted → Type 0
+Grants bs (same cs) = positions cs ≡ positions bs
+Grants bs (fresh at cs) = (h : ℕ) → times h (positions cs) ≡ times h (at ∷ positions bs)
+
+grants_stay : (bs : List Span) (r : Granted) → Grants bs r → StayIn bs (blocks_then r)
+grants_stay bs (same cs) g h some = subst (λ ps. 1 ≤ times h ps) (sym g) some
+grants_stay bs (fresh at cs) g h some = omega (arith, some, g h, times-more h at (positions bs))
+
 module _ (allocator : ℕ) (bs : List Span) (end : ℕ) where
-  by_expand : (at x u : ℕ) (r : Granted) → option_map same (after_expand bs end at x u) ≡ Some r → StayIn bs (blocks_then r)
+  by_expand : (at x u : ℕ) (r : Granted) → option_map same (after_expand bs end at x u) ≡ Some r → Grants bs r
   by_expand at x u r e = go (expanded x (room_at (gaps_of bs end) (at + 16 * x)) u) e
     where
-      go : (o : Option ℕ) → option_map same (option_map (λ n. resized at n bs) o) ≡ Some r → StayIn bs (blocks_then r)
+      go : (o : Option ℕ) → option_map same (option_map (λ n. resized at n bs) o) ≡ Some r → Grants bs r
       go None e = cc
-      go (Some n) e = subst (λ (g : Granted). StayIn bs (blocks_then g)) (let f : same (resized at n bs) ≡ r = cc in f) (λ h some. subst (λ ps. 1 ≤ times h ps) (sym (positions-resized at n bs)) some)
+      go (Some n) e = subst (Grants bs) (let f : same (resized at n bs) ≡ r = cc in f) (positions-resized at n bs)
 
-  by_take : (u : ℕ) (r : Granted) → option_map (λ (t : ℕ × List Span). fresh t.0 t.1) (after_take allocator bs end u) ≡ Some r → StayIn bs (blocks_then r)
+  by_take : (u : ℕ) (r : Granted) → option_map (λ (t : ℕ × List Span). fresh t.0 t.1) (after_take allocator bs end u) ≡ Some r → Grants bs r
   by_take u r e = go (pick allocator (gaps_of bs end) u) e
     where
-      go : (o : Option Span) → option_map (λ (t : ℕ × List Span). fresh t.0 t.1) (option_map (λ (g : Span). (g.at, with_block (record { at = g.at; units = granted g.units u }) bs)) o) ≡ Some r → StayIn bs (blocks_then r)
+      go : (o : Option Span) → option_map (λ (t : ℕ × List Span). fresh t.0 t.1) (option_map (λ (g : Span). (g.at, with_block (record { at = g.at; units = granted g.units u }) bs)) o) ≡ Some r → Grants bs r
       go None e = cc
       go (Some g) e =
           let b : Span = record { at = g.at; units = granted g.units u } in
-          subst (λ (x : Granted). StayIn bs (blocks_then x)) (let f : fresh g.at (with_block b bs) ≡ r = cc in f) (λ h some. omega (arith, some, times-with_block h b bs, times-more h g.at (positions bs)))
+          subst (Grants bs) (let f : fresh g.at (with_block b bs) ≡ r = cc in f) (λ h. times-with_block h b bs)
 
-  by_request_at : (at x preferred limit : ℕ) (r : Granted) → after_request_at allocator bs end at x preferred limit ≡ Some r → StayIn bs (blocks_then r)
+  by_request_at : (at x preferred limit : ℕ) (r : Granted) → after_request_at allocator bs end at x preferred limit ≡ Some r → Grants bs r
   by_request_at at x preferred limit r e = elim (or_some _ _ r e) [
     | inl f ↦ by_expand at x preferred r f
     | inr g ↦ elim (or_some _ _ r g) [
@@ -92,21 +101,21 @@ module _ (allocator : ℕ) (bs : List Span) (end : ℕ) where
     ]
   ]
 
-  by_request : (preferred limit : ℕ) (r : Granted) → after_request allocator bs end preferred limit ≡ Some r → StayIn bs (blocks_then r)
+  by_request : (preferred limit : ℕ) (r : Granted) → after_request allocator bs end preferred limit ≡ Some r → Grants bs r
   by_request preferred limit r e = go (or_some (after_take allocator bs end preferred) (after_take allocator bs end limit))
     where
       go : ((x : ℕ × List Span) → option_or (after_take allocator bs end preferred) (after_take allocator bs end limit) ≡ Some x → (after_take allocator bs end preferred ≡ Some x) ⊎ (after_take allocator bs end limit ≡ Some x))
-          → StayIn bs (blocks_then r)
+          → Grants bs r
       go split = by (option_or (after_take allocator bs end preferred) (after_take allocator bs end limit)) refl e
         where
-          by : (o : Option (ℕ × List Span)) → option_or (after_take allocator bs end preferred) (after_take allocator bs end limit) ≡ o → option_map (λ (t : ℕ × List Span). fresh t.0 t.1) o ≡ Some r → StayIn bs (blocks_then r)
+          by : (o : Option (ℕ × List Span)) → option_or (after_take allocator bs end preferred) (after_take allocator bs end limit) ≡ o → option_map (λ (t : ℕ × List Span). fresh t.0 t.1) o ≡ Some r → Grants bs r
           by None f e = cc
           by (Some x) f e = elim (split x f) [
             | inl k ↦ by_take preferred r (ap (option_map (λ (t : ℕ × List Span). fresh t.0 t.1)) k ∙ e)
             | inr k ↦ by_take limit r (ap (option_map (λ (t : ℕ × List Span). fresh t.0 t.1)) k ∙ e)
           ]
 
-  by_ask : (old : Option ℕ) (ask : Ask) → ask.old ≡ old → (r : Granted) → after_ask allocator bs end ask ≡ Some r → StayIn bs (blocks_then r)
+  pub by_ask : (old : Option ℕ) (ask : Ask) → ask.old ≡ old → (r : Granted) → after_ask allocator bs end ask ≡ Some r → Grants bs r
   by_ask None ask is r e = by_request ask.preferred ask.limit r (ap (λ o. demand.after_request_of allocator bs end o ask.preferred ask.limit) (sym is) ∙ e)
   by_ask (Some at) ask is r e = by_request_at at (room_at bs at) ask.preferred ask.limit r (ap (λ o. demand.after_request_of allocator bs end o ask.preferred ask.limit) (sym is) ∙ e)
 
@@ -129,7 +138,7 @@ module _ (allocator : ℕ) (bs : List Span) (end : ℕ) where
           by None f done left = cc
           by (Some g) f done left =
               let is : blocks_then g ≡ blocks = (let e : Some (blocks_then g) ≡ Some blocks = done in cc) in
-              let there_is = subst (λ cs. 1 ≤ times h (positions cs)) is (by_ask old (growth old item count wanted) refl g f h some) in
+              let there_is = subst (λ cs. 1 ≤ times h (positions cs)) is (grants_stay bs g (by_ask old (growth old item count wanted) refl g f) h some) in
               given g old left there_is none
             where
               given : (g : Granted) (old : Option ℕ) → new ≡ after_gives blocks ((old_of g (growth old item count wanted) ++ []) ++ []) → 1 ≤ times h (positions blocks) → times h (option_to_list old) ≡ 0 → 1 ≤ times h (positions new)
@@ -194,7 +203,7 @@ module _ (constants : List Constant) (others : List Root) (moves : List Move) (i
 
   written : (second : Answer) (stand : StandAlike others x z) (r : RowOn constants others moves i x success y) (q : RowOn constants others moves i z second w) → StaysAlike others success second y w
   written second stand r q =
-      place_step constants others moves i no_names no_uniques x z y w success second stand r q keeps found
+      place_step constants others moves i no_names no_uniques x z y w success second stand r q keeps found false
       (λ s bytes p spot own t. by_three (λ o. TouchesBy constants i p o spot own → OfPlace constants i p spot own) i.operation which (λ k. k) (λ k. k) (λ k. k) t) steps
     where
       keeps : moves_owners i.operation success ≡ false
@@ -222,7 +231,7 @@ module _ (constants : List Constant) (others : List Root) (moves : List Move) (i
             lives = λ k some none. text_lives constants i p new which found c place l k some (ap (times k) (sym blocks) ∙ none);
           }
 
-      steps : (place : Place) (form : Form) (its : List ℕ) (t : Touched constants i side.before y.image place form its) (u : Touched constants i other.before w.image place form its)
+      steps : (place : Place) (form : Form) (its : List ℕ) (t : Touched constants i false side.before y.image place form its) (u : Touched constants i false other.before w.image place form its)
           → PlaceSteps constants others moves i no_names no_uniques x z y w success second stand r q keeps found place form its t u
       steps place form its t u =
           let text : form ≡ Form.str = text_there constants i x.state x.image r.before success y.state r.row which place form t.led_to in
@@ -230,8 +239,10 @@ module _ (constants : List Constant) (others : List Root) (moves : List Move) (i
           let g : form_at other.before.picture.table place.type ≡ Some Form.str = ap (λ (k : Table). form_at k place.type) other.before.types ∙ u.led_to.form_is ∙ ap Some text in
           let theirs_success : ChangesBlocks constants i other.before success w.image = subst (λ a. ChangesBlocks constants i other.before a w.image) (sym (one constants others moves i x z y w success second stand r q).0) other.blocks in
           record {
-            within_first = within_place side.before place its f t.holds_it (subst (LedTo constants i side.before place) text t.led_to) side.blocks;
-            within_second = within_place other.before place its g u.holds_it (subst (LedTo constants i other.before place) text u.led_to) theirs_success;
+            within_first = within_whole constants others moves i no_names no_uniques x z y w success second stand r q keeps found side place form its t
+                (within_place side.before place its f t.holds_it (subst (LedTo constants i side.before place) text t.led_to) side.blocks);
+            within_second = within_whole constants others moves i no_names no_uniques x z y w success second stand r q keeps found other place form its u
+                (within_place other.before place its g u.holds_it (subst (LedTo constants i other.before place) text u.led_to) theirs_success);
             inner = λ a b xs ys h fits k fits_too m n same forth back once once_too. (
                 let mine_held = leaf_held y.image side.before.picture.table place Form.str tt f h in
                 let their_held = leaf_held w.image side.before.picture.table place Form.str tt f k in

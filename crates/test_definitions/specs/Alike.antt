@@ -82,6 +82,16 @@ is_settled Operation.SetStr = true
 is_settled Operation.AddStr = true
 is_settled Operation.AddByte = true
 is_settled Operation.Shrink = true
+is_settled Operation.PushBack = true
+is_settled Operation.PushFront = true
+is_settled Operation.PutKey = true
+is_settled Operation.New = true
+is_settled Operation.Drop = true
+is_settled Operation.MakeUnique = true
+is_settled Operation.FindOrMakeUnique = true
+is_settled Operation.PopFront = true
+is_settled Operation.Clear = true
+is_settled Operation.Share = true
 is_settled operation = not (writes_image operation)
 
 module _ (constants : List Constant) (i : Instruction) {others : List Root} {s : State}
