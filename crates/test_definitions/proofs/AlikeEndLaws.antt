@@ -230,7 +230,7 @@ module _ (others : List Root) (moves moves_too : List Move) (base base_too : ℕ
           falling_too = f.counted.falling;
         }
 
-    -- an object of the first image, as it was before
+    -- an object of the first image before the row
     module _ (g : Frozen) (i : IsOneOf g e.picture.frozen) where
       was_at : StandsAt g.at p.picture.frozen
       was_at = ended.frozen_was given x left_is e g i

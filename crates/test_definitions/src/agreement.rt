@@ -80,10 +80,10 @@ pub fn settled_instructions()
 /// In each outcome the increment of the number 41 named x takes 6 steps and prints 42, unless its output fails. Then the output is a
 /// proper beginning of that. So no outcome prints 43.
 pub fn one_increment()
-    ensures prints { (left : Left) → IsOutcomeOf increment counter left → left.ending ≢ stopped →
-        (left.steps ≡ 6) × (left.output ≡ codes "42\n") }
-    ensures cut { (left : Left) → IsOutcomeOf increment counter left → left.ending ≡ stopped →
-        IsLonger left.output (codes "42\n") }
+    ensures prints { (left : Left) → IsOutcomeOf increment counter left →
+        left.ending ≢ stopped → (left.steps ≡ 6) × (left.output ≡ codes "42\n") }
+    ensures cut { (left : Left) → IsOutcomeOf increment counter left →
+        left.ending ≡ stopped → IsLonger left.output (codes "42\n") }
     ensures refused { (left : Left) → IsOutcomeOf increment counter left →
         left.output ≡ codes "43\n" → ⊥ }
 {}
