@@ -1,7 +1,7 @@
 -- The positions of named and unique objects before and after a run.
 --     code_passes test code         each instruction of the code passes the test
 --     keeps_name constants name i   the instruction isn't a KILL of the name or of its family
---     keeps_unique T i              the instruction isn't a KILLU of this type
+--     keeps_unique T i              the instruction isn't a UKILL of this type
 --     Stays find old new            what is found in one image is found in the other, where it was
 --     NameStays old new name, UniqueStays old new T
 --                                   the object with the name, and the unique object of the type

@@ -35,7 +35,7 @@ pub fn verify<'c, A: Allocator>(image: &Image<A>, client: &'c [u8]) -> Result<Ve
 /// Adds a client's types to an image, and runs the client on it, to the end of its code or to an output that fails. A run takes
 /// at most [`Verified::bound`] steps, and no host memory. Clients can run one after the other, each any number of times. A client
 /// leaves a named object where it is if it has no `KILL` of its name or family, and the unique object of a type if it has no
-/// `KILLU` of the type, so that the host can keep the places that it found. Fails with `TypeMismatch` if the client was verified
+/// `UKILL` of the type, so that the host can keep the places that it found. Fails with `TypeMismatch` if the client was verified
 /// against other types; then nothing changes.
 pub fn run<A: Allocator, B: Allocator, W: Sink>(
     image: &mut Image<A>,

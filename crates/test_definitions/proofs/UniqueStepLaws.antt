@@ -1,4 +1,4 @@
--- Two situations that clients can't tell apart stay so after MAKEU and FINDORU.
+-- Two situations that clients can't tell apart stay so after UMAKE and UFINDOR.
 use Rattle.std.specs.Prelude.{ℤ, pos, nat_abs, ◌==◌, if◌then◌else◌, is_some, option_and_then}
 use Rattle.std.proofs.Common.{◌≡◌, ◌≢◌, ℕ, ◌+◌, ◌≤◌, ◌⊎◌, inl, inr, Bool, true, false, List, [], ◌∷◌, ◌++◌, length, Option, Some, None, option_map, refl, sym, ap, ◌∙◌, subst, arith}
 use Rattle.std.specs.List.{AllByRecursion}
@@ -70,7 +70,7 @@ module _ (constants : List Constant) (a b c : ℕ) (number : ℤ) (room : Bool) 
       added a (nat_abs number) room s t
       (subst (λ (v : Option Value). ◌≡◌ {A = Outcome} (if is_some v then answer success a (Register.Reference (path_from (Origin.Unique (nat_abs number)))) s else add_unique a (nat_abs number) room s) (Some (success, t))) none f)
 
-  -- MAKEU makes no second object
+  -- UMAKE makes no second object
   not_twice : (o : Operation) → o ≡ Operation.MakeUnique → ◌≡◌ {A = Outcome} (effect constants o a b c number room s) (Some (success, t)) → is_some (s.uniques (nat_abs number)) ≡ true → ⊥
   unfolding effect
   not_twice o is e there =

@@ -1,5 +1,5 @@
 -- Each row keeps the types, and only appends to the output. It keeps each named and each unique
--- object, except for the one that KILL or KILLU destroys.
+-- object, except for the one that KILL or UKILL destroys.
 use Rattle.std.proofs.Common.{◌≡◌, ◌⊎◌, inl, inr, ℕ, List, [], ◌∷◌, ◌++◌, Bool, true, false, Option, Some, None, refl, sym, ap, ◌∙◌, subst}
 use Rattle.std.specs.Prelude.{ℤ, if◌then◌else◌, length, slice_index, slice_get, nat_abs}
 use Rattle.std.specs.Option.{option_map_or}
