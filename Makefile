@@ -28,8 +28,8 @@ OUT ?= out
 
 HEADER := crates/lezgauri_c/include/lezgauri.h
 CPP_HEADER := crates/lezgauri_c/include/lezgauri.hpp
-VERSION := $(shell sed -n 's/^const VERSION: &str = "\([0-9.]*\) .*/\1/p' crates/cli_words/src/command_line.rt)
-$(if $(VERSION),,$(error crates/cli_words/src/command_line.rt has no VERSION))
+VERSION := $(shell sed -n 's/^const VERSION: &str = "\([0-9.]*\) .*/\1/p' crates/cli_host/src/command_line.rt)
+$(if $(VERSION),,$(error crates/cli_host/src/command_line.rt has no VERSION))
 MAJOR := $(firstword $(subst ., ,$(VERSION)))
 SONAME := liblezgauri.so.$(MAJOR)
 SHARED := liblezgauri.so.$(VERSION)

@@ -25,7 +25,7 @@ def subjects():
     operations = items("crates/client_spec/src/table.rt", "pub enum Operation {")
     types = items("crates/seg_layout/src/kind.rt", "pub enum Type {")
     forms = [re.sub(r"(?<=[a-z])(?=[A-Z])", "_", name).lower() for name in types]
-    commands = re.findall(r'\n        name: "(\w+)"', read("crates/cli_words/src/command_line.rt"))
+    commands = re.findall(r'\n        name: "(\w+)"', read("crates/cli_host/src/command_line.rt"))
     fields = re.findall(r"^(?:pub )?const ([A-Z_]+): usize", read("crates/seg_ptr/src/header.rt"), re.M)
     return {
         "A new instruction": (r"\b(?:Operation|op)(?:::|\.)(%s)\b", operations, 16),

@@ -51,7 +51,7 @@ class Program:
 
 def version():
     """The version of Lezgauri."""
-    source = ROOT / "crates" / "cli_words" / "src" / "command_line.rt"
+    source = ROOT / "crates" / "cli_host" / "src" / "command_line.rt"
     return re.search(r'^const VERSION: &str = "(\S+)', source.read_text(encoding="utf-8"), re.M)[1]
 
 

@@ -1,7 +1,7 @@
 ghost use Rattle.std.specs.Prelude.{◌≡◌, false};
 
 use crate::discarded::Discarded;
-use cli_files::{Files, read_file, read_image};
+use cli_host::{Files, read_file, read_image};
 use lezgauri::{Image, prepare, run, verify};
 use std::alloc::Global;
 

@@ -7,7 +7,7 @@ mod clients;
 mod discarded;
 
 use crate::clients::{prepare_client, run_client};
-use cli_files::HostFiles;
+use cli_host::HostFiles;
 use lezgauri::{
     BestFit, Code, ENTRY, Fault, Fit, Heap, IndexKind, Numbers, Place, Region, Segment, SeqFit,
     Type, TypeId, TypeTable,

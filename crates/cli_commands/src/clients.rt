@@ -3,11 +3,11 @@
 ghost use Rattle.std.specs.Prelude.{◌≡◌, false};
 
 use crate::door::{assembled, opened, printed, ready, verified};
-use cli_files::{
-    Files, Format, read_file, read_image, refuse_input, refuse_other_format, write_file,
+use cli_host::{
+    Assembly, Files, Format, Trace, read_file, read_image, refuse_input, refuse_other_format,
+    write_file,
 };
 use cli_program::{Failure, print, read_input};
-use cli_words::{Assembly, Trace};
 use client_trace::{Untraced, trace};
 use lezgauri::{Fault, Image, Ready, Sink};
 use std::alloc::Global;

@@ -2,9 +2,8 @@ ghost use Rattle.std.specs.Prelude.{◌≡◌, false};
 
 use crate::problems::told;
 use cli_explain::{Sources, explain};
-use cli_files::{Files, read_file, read_files, read_image};
+use cli_host::{Files, ImageTask, Request, read_file, read_files, read_image};
 use cli_program::{Failure, slices, tell};
-use cli_words::{ImageTask, Request};
 use lezgauri::{Refused, Sink};
 use std::alloc::{AllocError, Global};
 

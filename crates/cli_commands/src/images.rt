@@ -3,11 +3,11 @@
 ghost use Rattle.std.specs.Prelude.{◌≡◌, false};
 
 use crate::made::{Made, made_of, new_image};
-use cli_files::{
-    FileFailure, Files, Format, read_image, refuse_input, refuse_other_format, write_file,
+use cli_host::{
+    FileFailure, Files, Format, ImageTask, NewImage, Picture, read_image, refuse_input,
+    refuse_other_format, write_file,
 };
 use cli_program::{Failure, print};
-use cli_words::{ImageTask, NewImage, Picture};
 use lezgauri::Sink;
 use std::alloc::Global;
 

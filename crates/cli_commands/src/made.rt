@@ -1,7 +1,7 @@
 use crate::door::{created, grown, opened, shrunk};
 use crate::listing::{blocks, objects, pictured, shown, size, statistics};
+use cli_host::{Allocator, ImageTask, Index, NewImage};
 use cli_program::Failure;
-use cli_words::{Allocator, ImageTask, Index, NewImage};
 use lezgauri::{AllocatorKind, Fault, Image, IndexKind};
 use std::alloc::{AllocError, Global};
 

@@ -1,6 +1,6 @@
 //! Explanations of why a file can't be read or written.
 
-use cli_files::{FileProblem, Format};
+use cli_host::{FileProblem, Format};
 use std::alloc::{AllocError, Global};
 
 /// Why a file can't be read or written, and what would be right, in words.

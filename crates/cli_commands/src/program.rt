@@ -5,9 +5,8 @@ ghost use Rattle.cli_commands.specs.Requests.{OfRun};
 use crate::clients::{assemble_file, print_file, trace_file, verify_file};
 use crate::explaining::explain_failure;
 use crate::images::{image_file, new_file};
-use cli_files::Files;
+use cli_host::{Asked, Files, Request};
 use cli_program::{Failure, print, report, run_files};
-use cli_words::{Asked, Request};
 use lezgauri::Sink;
 use std::alloc::Global;
 use std::convert::AsStr;
@@ -25,7 +24,7 @@ pub fn command<S: AsStr, F: Files, O: Sink, E: Sink>(
     requires err_works { E.has_failed err.old ≡ false }
     ensures status { result ≤ 3 }
 {
-    match cli_words::read(alloc, words) {
+    match cli_host::read(alloc, words) {
         Ok(asked) => answer(alloc, &asked, files, out, err),
         Err(misread) => report(alloc, &Failure::from(misread), err),
     }

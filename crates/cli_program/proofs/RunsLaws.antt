@@ -3,9 +3,9 @@ use Rattle.std.proofs.Common.{◌≡◌, inl, subst, ℕ, List, [], ◌∷◌, �
 use Rattle.std.specs.Prelude.{IfNone, OnOk, Ok, Err}
 use Rattle.client_output.specs.declared.report.Ended.{Ended}
 use Rattle.client_output.specs.declared.report.Ended.TheVariants.{Done, OutputFailed}
-use Rattle.cli_files.specs.Accesses.{Access, Adds, access, accesses_of}
-use Rattle.cli_files.proofs.AccessesLaws.{adds_both}
-use Rattle.cli_words.specs.declared.run.Run.{Run}
+use Rattle.cli_host.specs.Accesses.{Access, Adds, access, accesses_of}
+use Rattle.cli_host.proofs.AccessesLaws.{adds_both}
+use Rattle.cli_host.specs.declared.run.Run.{Run}
 use Rattle.cli_program.specs.declared.failure.Failure.{Failure}
 use Rattle.cli_program.specs.declared.failure.Failure.TheVariants as failure
 use Rattle.cli_program.specs.Failures.{IsUnsaved}

@@ -7,9 +7,9 @@ use Rattle.seg_raw.specs.declared.fault.Fault.TheVariants.{Memory}
 use Rattle.client_output.specs.declared.refused.Refused.{Refused}
 use Rattle.client_output.specs.declared.report.Ended.{Ended}
 use Rattle.client_output.specs.declared.report.Ended.TheVariants.{OutputFailed}
-use Rattle.cli_files.specs.Accesses.{Access, Adds}
-use Rattle.cli_files.specs.declared.named.FileFailure.{FileFailure}
-use Rattle.cli_files.specs.declared.named.FileFailure.TheVariants as file_failure
+use Rattle.cli_host.specs.Accesses.{Access, Adds}
+use Rattle.cli_host.specs.declared.named.FileFailure.{FileFailure}
+use Rattle.cli_host.specs.declared.named.FileFailure.TheVariants as file_failure
 use Rattle.cli_program.specs.declared.failure.Failure.{Failure}
 use Rattle.cli_program.specs.declared.failure.Failure.TheVariants as failure
 

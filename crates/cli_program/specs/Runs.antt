@@ -16,8 +16,8 @@ use Rattle.client_output.specs.declared.report.Ended.TheVariants.{Done, OutputFa
 use Rattle.client_output.specs.declared.refused.Refused.{Refused}
 use Rattle.client_vm.specs.Jobs.{Job, job_at, effect_at}
 use Rattle.client_vm.specs.Outcomes.{HasOutcome, IsRefusedFor}
-use Rattle.cli_files.specs.Accesses.{Access, Adds, access, accesses_of}
-use Rattle.cli_words.specs.declared.run.Run.{Run}
+use Rattle.cli_host.specs.Accesses.{Access, Adds, access, accesses_of}
+use Rattle.cli_host.specs.declared.run.Run.{Run}
 use Rattle.cli_program.specs.declared.inputs.Inputs.{Inputs}
 use Rattle.cli_program.specs.declared.failure.Failure.{Failure}
 use Rattle.cli_program.specs.declared.failure.Failure.TheVariants as failure

@@ -2,8 +2,7 @@ ghost use Rattle.std.specs.Prelude.{◌≡◌, ◌<◌, ◌≤◌, None};
 ghost use Rattle.cli_program.specs.declared.failure.Failure.TheVariants as failure;
 ghost use Rattle.cli_program.specs.Failures.{out_of_memory, failure_of};
 
-use cli_files::{FileFailure, FileProblem};
-use cli_words::Misread;
+use cli_host::{FileFailure, FileProblem, Misread};
 use client_vm::{Fault, Refused};
 use std::alloc::{AllocError, Global};
 

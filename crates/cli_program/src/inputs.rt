@@ -1,12 +1,11 @@
 ghost use Rattle.std.specs.Prelude.{◌≡◌, [], map, IfOk, IfNone};
-ghost use Rattle.cli_files.specs.Accesses.{Adds};
+ghost use Rattle.cli_host.specs.Accesses.{Adds};
 ghost use Rattle.cli_program.specs.Runs.{WasRead, input_read, read_of};
 
-use cli_files::{
-    FileFailure, Files, Format, is_same_file, read_file, read_files, read_image, refuse_input,
+use cli_host::{
+    FileFailure, Files, Format, Run, is_same_file, read_file, read_files, read_image, refuse_input,
     refuse_other_format,
 };
-use cli_words::Run;
 use std::alloc::{AllocError, Global};
 
 /// What a run reads: the bytes of an image, of the clients, and of the input.

@@ -6,8 +6,7 @@ ghost use Rattle.cli_program.specs.Runs.{read_of, room_of, job_of_run, IsRefusal
 use crate::failure::Failure;
 use crate::inputs::{Inputs, read_inputs, slices};
 use crate::saving::save;
-use cli_files::Files;
-use cli_words::Run;
+use cli_host::{Files, Run};
 use client_vm::{Outcome, Refused, Schedule, Sink, run_image};
 use std::alloc::Global;
 

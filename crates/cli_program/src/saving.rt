@@ -1,9 +1,9 @@
 ghost use Rattle.std.specs.Prelude.{◌≡◌, [], ◌∷◌, OnOk, IfErr};
-ghost use Rattle.cli_files.specs.Accesses.{Adds, access};
+ghost use Rattle.cli_host.specs.Accesses.{Adds, access};
 ghost use Rattle.cli_program.specs.Failures.{IsUnsaved};
 
 use crate::failure::Failure;
-use cli_files::{Files, write_file};
+use cli_host::{Files, write_file};
 use client_vm::Ended;
 
 /// Writes the saved image, even if the clients' output failed; then that is the failure.

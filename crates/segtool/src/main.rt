@@ -3,7 +3,7 @@
 #![tactic(auto)]
 
 use cli_commands::command;
-use cli_files::HostFiles;
+use cli_host::HostFiles;
 use cli_program::{Through, refuse, words};
 use std::process::ExitCode;
 

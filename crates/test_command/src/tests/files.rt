@@ -1,7 +1,7 @@
 //! Runs commands on files in memory, and compares their output.
 
 use cli_commands::command;
-use cli_files::{FileFault, FileProblem, Files};
+use cli_host::{FileFault, FileProblem, Files};
 use lezgauri::{Through, assemble};
 use std::alloc::{AllocError, Global};
 use std::process::Abort;

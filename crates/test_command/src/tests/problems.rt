@@ -1,7 +1,7 @@
 //! Files that can't be read or written: the printed line, and the reason.
 
 use crate::tests::files::{Stored, counter_files, follow};
-use cli_files::FileProblem;
+use cli_host::FileProblem;
 use std::alloc::Global;
 use std::test::Fail;
 

@@ -1,6 +1,6 @@
 use Rattle.std.proofs.Common.{sym, subst}
-use Rattle.cli_files.specs.Accesses.{Adds}
-use Rattle.cli_files.proofs.AccessesLaws.{adds_none}
+use Rattle.cli_host.specs.Accesses.{Adds}
+use Rattle.cli_host.proofs.AccessesLaws.{adds_none}
 use Rattle.cli_program.specs.Runs.{input_read}
 use Rattle.cli_program.proofs.inputs.read_input.Goals as goal
 

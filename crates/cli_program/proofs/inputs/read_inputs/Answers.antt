@@ -1,6 +1,6 @@
 use Rattle.std.proofs.Common.{map, length, ap, subst, ◌∙◌}
 use Rattle.std.proofs.lemmas.List.{length-map}
-use Rattle.cli_files.specs.Accesses.{Adds, accesses_of}
+use Rattle.cli_host.specs.Accesses.{Adds, accesses_of}
 use Rattle.cli_program.specs.Runs.{read_of}
 use Rattle.cli_program.proofs.RunsLaws.{all_read}
 use Rattle.cli_program.proofs.inputs.read_inputs.Goals as goal

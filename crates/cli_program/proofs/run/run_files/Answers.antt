@@ -1,7 +1,7 @@
 use Rattle.std.proofs.Common.{[], ◌∷◌, List, ℕ, sym, subst}
 use Rattle.std.proofs.lemmas.Result.{IfErr-weaker}
 use Rattle.std.specs.Prelude.{OnOk}
-use Rattle.cli_files.specs.Accesses.{Adds, access}
+use Rattle.cli_host.specs.Accesses.{Adds, access}
 use Rattle.cli_program.specs.Failures.{IsUnsaved}
 use Rattle.cli_program.specs.Runs.{WasRead, HasRun, HasFailed, read_of}
 use Rattle.cli_program.proofs.RunsLaws.{failed_save, saved_by}

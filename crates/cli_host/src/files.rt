@@ -1,5 +1,5 @@
 ghost use Rattle.std.specs.Prelude.{◌≡◌, [], ◌∷◌, List, Option, None, IfOk, OnOk, OnErr};
-ghost use Rattle.cli_files.specs.Accesses.{Access, Adds, access};
+ghost use Rattle.cli_host.specs.Accesses.{Access, Adds, access};
 
 use crate::problem::FileProblem;
 use std::alloc::Global;

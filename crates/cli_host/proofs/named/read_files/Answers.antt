@@ -1,8 +1,8 @@
 use Rattle.std.proofs.Common.{rules, ◌≡◌, [], ◌∷◌, ◌++◌, ◌+◌, length, map, take, ap, subst, sym, ◌∙◌}
 use Rattle.std.proofs.lemmas.List.{length-append}
-use Rattle.cli_files.specs.Accesses.{Adds, accesses_of}
-use Rattle.cli_files.proofs.AccessesLaws.{read_more}
-use Rattle.cli_files.proofs.named.read_files.Goals as goal
+use Rattle.cli_host.specs.Accesses.{Adds, accesses_of}
+use Rattle.cli_host.proofs.AccessesLaws.{read_more}
+use Rattle.cli_host.proofs.named.read_files.Goals as goal
 
 pub loop-name-preserved : goal.loop-name-preserved
 loop-name-preserved g c =

@@ -1,6 +1,6 @@
 use Rattle.std.proofs.Common.{◌≡◌, length, map, take}
-use Rattle.cli_files.specs.Accesses.{Adds, accesses_of}
-use Rattle.cli_files.proofs.named.read_files.Given as goal
+use Rattle.cli_host.specs.Accesses.{Adds, accesses_of}
+use Rattle.cli_host.proofs.named.read_files.Given as goal
 
 abbrev pub invariant-loop-name : goal.invariant-loop-name
 invariant-loop-name g l =

@@ -1,7 +1,7 @@
 -- Accesses to several files, one by one.
 use Rattle.std.proofs.Common.{◌≡◌, ℕ, ◌+◌, List, [], ◌∷◌, ◌++◌, length, map, take, get_or, ◌<◌, le_of_lt, Option, Some, None, refl, sym, ap, ◌∙◌, subst, arith}
 use Rattle.std.proofs.lemmas.List.{take_more, map-append, append_assoc, append-nil, length-map, length-take-le}
-use Rattle.cli_files.specs.Accesses.{Access, Adds, access, accesses_of}
+use Rattle.cli_host.specs.Accesses.{Access, Adds, access, accesses_of}
 
 pub accesses_of-append : (names texts : List (List ℕ)) (name text : List ℕ) → length texts ≡ length names → accesses_of (names ++ name ∷ []) (texts ++ text ∷ []) ≡ accesses_of names texts ++ access name text ∷ []
 accesses_of-append [] [] name text same = refl

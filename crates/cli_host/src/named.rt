@@ -1,5 +1,5 @@
 ghost use Rattle.std.specs.Prelude.{◌≡◌, [], ◌∷◌, length, map, IfOk, OnOk, OnErr};
-ghost use Rattle.cli_files.specs.Accesses.{Adds, access, accesses_of};
+ghost use Rattle.cli_host.specs.Accesses.{Adds, access, accesses_of};
 
 use crate::files::{FileFault, Files};
 use crate::problem::FileProblem;

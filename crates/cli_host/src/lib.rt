@@ -1,0 +1,27 @@
+//! What the program gets from its host: the command line, as the request that its arguments make, and files by their names.
+#![tactic(auto)]
+
+mod command_line;
+mod files;
+mod host;
+mod line;
+mod misread;
+mod named;
+mod overwriting;
+mod problem;
+mod reading;
+mod request;
+mod run;
+
+pub use files::{FileFault, Files};
+pub use host::HostFiles;
+pub use line::{Argument, CommandRow, Takes, number, parser, parser_of, word};
+pub use misread::Misread;
+pub use named::{FileFailure, read_file, read_files, read_image, write_file};
+pub use overwriting::{is_same_file, refuse_input, refuse_other_format};
+pub use problem::{FileProblem, Format};
+pub use reading::read;
+pub use request::{
+    Allocator, Asked, Assembly, ImageTask, Index, NewImage, Picture, Request, Trace,
+};
+pub use run::{FORCE, INPUT, RUN, Run, run_of};
