@@ -23,9 +23,9 @@ use Rattle.client_verify.specs.Refusals.{IsRefused}
 use Rattle.client_spec.proofs.Spelling.OneClientLaws.{one_client}
 use Rattle.test_definitions.proofs.IncrementLaws.{increment_spelled}
 use Rattle.test_definitions.proofs.Whole as whole
-use Rattle.client_output.specs.declared.report.Report.{Report}
-use Rattle.client_output.specs.declared.refused.Refused.{Refused}
-use Rattle.client_output.specs.declared.report.Ended.TheVariants as ended
+use Rattle.client_vm.specs.declared.report.Report.{Report}
+use Rattle.client_verify.specs.declared.refused.Refused.{Refused}
+use Rattle.client_vm.specs.declared.report.Ended.TheVariants as ended
 use Rattle.client_vm.specs.Jobs.{Job, Effect, job_at, effect_at}
 use Rattle.client_vm.specs.Outcomes.{AreReports, AreLeftByRuns, HasOutcome, IsFault, IsRefusedFor}
 

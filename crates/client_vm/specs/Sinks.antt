@@ -2,7 +2,7 @@
 --     writer_of sink      the writer
 --     failed_of sink      whether the sink has failed
 use Rattle.std.specs.Prelude.{Bool}
-use Rattle.client_output.specs.declared.sink.Through.{Through}
+use Rattle.client_vm.specs.declared.sink.Through.{Through}
 
 abbrev pub writer_of : {W : Type 0} → Through W → W
 writer_of sink = sink.writer
