@@ -1,3 +1,5 @@
+//! Programs: their trees, and the errors that are reported.
+
 mod programs;
 mod trees;
 mod written;

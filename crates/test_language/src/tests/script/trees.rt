@@ -1,4 +1,4 @@
-use crate::tests::written::written;
+use crate::tests::script::written::written;
 use script_syntax::{Failure, parse};
 use std::alloc::{AllocError, Global};
 use std::process::Abort;
