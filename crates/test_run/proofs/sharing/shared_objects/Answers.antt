@@ -1,5 +1,5 @@
-use Rattle.test_statements.proofs.SharedObjectLaws.{counts, numbers, trees, each_named, blocks, nothing}
-use Rattle.test_statements.proofs.sharing.shared_objects.Goals as goal
+use Rattle.test_run.proofs.SharedObjectLaws.{counts, numbers, trees, each_named, blocks, nothing}
+use Rattle.test_run.proofs.sharing.shared_objects.Goals as goal
 
 pub returns : goal.returns
 returns c = record {

@@ -22,7 +22,7 @@ ghost use Rattle.client_spec.specs.Trees.{AreTrees};
 ghost use Rattle.client_spec.specs.Pictures.{HasObjects, Pictures};
 ghost use Rattle.client_spec.specs.Asks.{WithFrozen, Returns, Renames};
 ghost use Rattle.client_spec.specs.OnImages.{Move, Situation, RowOn, Given, Left, RunsClient};
-ghost use Rattle.test_statements.specs.Saved.{OfSaved, all_cells};
+ghost use Rattle.test_run.specs.Saved.{OfSaved, all_cells};
 
 /// The saved image is sound, whatever the image, the clients, their input, the place and the moves are. Each frozen object in it
 /// counts the cells that share it, at least one. The object's number is below the image's next number, and above the numbers of

@@ -1,5 +1,5 @@
-use Rattle.test_statements.proofs.OutcomeLaws as laws
-use Rattle.test_statements.proofs.outcomes.no_clients.Goals as goal
+use Rattle.test_run.proofs.OutcomeLaws as laws
+use Rattle.test_run.proofs.outcomes.no_clients.Goals as goal
 
 pub returns : goal.returns
 returns c = record {

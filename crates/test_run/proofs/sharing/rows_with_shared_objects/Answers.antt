@@ -1,5 +1,5 @@
-use Rattle.test_statements.proofs.SharedObjectLaws.{each_named, row_gives, row_frees, last_cell, with_it, shared_goes}
-use Rattle.test_statements.proofs.sharing.rows_with_shared_objects.Goals as goal
+use Rattle.test_run.proofs.SharedObjectLaws.{each_named, row_gives, row_frees, last_cell, with_it, shared_goes}
+use Rattle.test_run.proofs.sharing.rows_with_shared_objects.Goals as goal
 
 pub returns : goal.returns
 returns c = record {

@@ -1,5 +1,5 @@
 use Rattle.client_spec.proofs.Unfolded.PictureTreeLaws.{pictures_trees}
-use Rattle.test_statements.proofs.sharing.runs_of_trees.Goals as goal
+use Rattle.test_run.proofs.sharing.runs_of_trees.Goals as goal
 
 pub returns : goal.returns
 returns c = record {

@@ -1,7 +1,7 @@
 use Rattle.std.proofs.Common.{inl}
 use Rattle.test_definitions.proofs.SoundImages.{counter_sound}
-use Rattle.test_statements.proofs.OutcomeLaws as laws
-use Rattle.test_statements.proofs.outcomes.refused.Goals as goal
+use Rattle.test_run.proofs.OutcomeLaws as laws
+use Rattle.test_run.proofs.outcomes.refused.Goals as goal
 
 pub returns : goal.returns
 returns c = record {

@@ -1,5 +1,5 @@
-use Rattle.test_statements.proofs.OutcomeLaws as laws
-use Rattle.test_statements.proofs.outcomes.faults_and_outcomes.Goals as goal
+use Rattle.test_run.proofs.OutcomeLaws as laws
+use Rattle.test_run.proofs.outcomes.faults_and_outcomes.Goals as goal
 
 pub returns : goal.returns
 returns c = record {

@@ -6,7 +6,7 @@ ghost use Rattle.seg_spec.specs.Images.{IsSound};
 ghost use Rattle.seg_spec.specs.Fixtures.{counter, other_magic, odd_type, linked, lost_gap, two_owners, no_owner};
 ghost use Rattle.seg_check.specs.Faults.{IsImageOf, IsFaultOf, IsFaultOfOpening};
 ghost use Rattle.seg_check.specs.Positions.{IsFaultAt};
-ghost use Rattle.test_statements.specs.WrongImages.{uncounted, pointless, overfull};
+ghost use Rattle.test_run.specs.WrongImages.{uncounted, pointless, overfull};
 
 use seg_raw::Fault;
 

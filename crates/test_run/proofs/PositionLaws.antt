@@ -17,7 +17,7 @@ use Rattle.seg_check.specs.Positions.{PointsTo, IsBlockFor, HasNodes, IsEntryAt,
 use Rattle.seg_check.proofs.Blocks.LackingBlockLaws.{null_points}
 use Rattle.test_definitions.proofs.ImageEvaluationLaws.{live_evaluated, one_type-valid, all_old, numbers-valid, numbers-old}
 use Rattle.test_definitions.proofs.SoundImages.{counter_tiles}
-use Rattle.test_statements.specs.WrongImages.{uncounted, pointless, overfull}
+use Rattle.test_run.specs.WrongImages.{uncounted, pointless, overfull}
 
 -- ---- the entry counts no values
 

@@ -1,7 +1,7 @@
 use Rattle.std.proofs.Common.{arith}
 use Rattle.seg_spec.proofs.Images.UpgradeLaws.{upgraded_held, upgraded_counted, upgraded_version, upgraded_live}
-use Rattle.test_statements.proofs.SharedObjectLaws.{none_before}
-use Rattle.test_statements.proofs.sharing.upgraded_images.Goals as goal
+use Rattle.test_run.proofs.SharedObjectLaws.{none_before}
+use Rattle.test_run.proofs.sharing.upgraded_images.Goals as goal
 
 pub returns : goal.returns
 returns c = record {
