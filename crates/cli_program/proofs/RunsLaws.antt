@@ -1,8 +1,8 @@
 -- What a run read, and how it failed.
 use Rattle.std.proofs.Common.{◌≡◌, inl, subst, ℕ, List, [], ◌∷◌, ◌++◌, length, map, Option, Result}
 use Rattle.std.specs.Prelude.{IfNone, OnOk, Ok, Err}
-use Rattle.client_output.specs.declared.report.Ended.{Ended}
-use Rattle.client_output.specs.declared.report.Ended.TheVariants.{Done, OutputFailed}
+use Rattle.client_vm.specs.declared.report.Ended.{Ended}
+use Rattle.client_vm.specs.declared.report.Ended.TheVariants.{Done, OutputFailed}
 use Rattle.cli_host.specs.Accesses.{Access, Adds, access, accesses_of}
 use Rattle.cli_host.proofs.AccessesLaws.{adds_both}
 use Rattle.cli_host.specs.declared.run.Run.{Run}

@@ -4,9 +4,9 @@
 --     IsUnsaved ..                 why an image wasn't saved, or that the output had failed
 use Rattle.std.specs.Prelude.{◌≡◌, ◌⊎◌, List, [], ◌∷◌, Option, None}
 use Rattle.seg_raw.specs.declared.fault.Fault.TheVariants.{Memory}
-use Rattle.client_output.specs.declared.refused.Refused.{Refused}
-use Rattle.client_output.specs.declared.report.Ended.{Ended}
-use Rattle.client_output.specs.declared.report.Ended.TheVariants.{OutputFailed}
+use Rattle.client_verify.specs.declared.refused.Refused.{Refused}
+use Rattle.client_vm.specs.declared.report.Ended.{Ended}
+use Rattle.client_vm.specs.declared.report.Ended.TheVariants.{OutputFailed}
 use Rattle.cli_host.specs.Accesses.{Access, Adds}
 use Rattle.cli_host.specs.declared.named.FileFailure.{FileFailure}
 use Rattle.cli_host.specs.declared.named.FileFailure.TheVariants as file_failure

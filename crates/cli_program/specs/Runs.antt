@@ -10,10 +10,10 @@
 --     HasFailed ..                   why the command failed, and what it wrote
 use Rattle.std.specs.Prelude.{◌≡◌, ◌⊎◌, ℕ, ◌+◌, ◌-◌, ◌^◌, min, List, [], ◌∷◌, ◌++◌, length, map, Option, Some, None, IfNone, unwrap_or}
 use Rattle.std.proofs.Common.{Bor}
-use Rattle.client_output.specs.declared.report.Report.{Report}
-use Rattle.client_output.specs.declared.report.Ended.{Ended}
-use Rattle.client_output.specs.declared.report.Ended.TheVariants.{Done, OutputFailed}
-use Rattle.client_output.specs.declared.refused.Refused.{Refused}
+use Rattle.client_vm.specs.declared.report.Report.{Report}
+use Rattle.client_vm.specs.declared.report.Ended.{Ended}
+use Rattle.client_vm.specs.declared.report.Ended.TheVariants.{Done, OutputFailed}
+use Rattle.client_verify.specs.declared.refused.Refused.{Refused}
 use Rattle.client_vm.specs.Jobs.{Job, job_at, effect_at}
 use Rattle.client_vm.specs.Outcomes.{HasOutcome, IsRefusedFor}
 use Rattle.cli_host.specs.Accesses.{Access, Adds, access, accesses_of}

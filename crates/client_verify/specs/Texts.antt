@@ -16,7 +16,7 @@ use Rattle.client_code.specs.Clients.{bytes_of}
 use Rattle.client_verify.specs.Accepted.{client_of}
 use Rattle.client_verify.specs.Refusals.{IsRefused}
 use Rattle.client_verify.specs.declared.verified.Verified.{Verified}
-use Rattle.client_output.specs.declared.refused.Refused.{Refused}
+use Rattle.client_verify.specs.declared.refused.Refused.{Refused}
 
 abbrev pub texts_of : List Verified → List (List ℕ)
 texts_of programs = map (λ program. bytes_of (client_of program)) programs

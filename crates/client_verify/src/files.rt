@@ -7,9 +7,9 @@ ghost use Rattle.client_code.specs.Clients.{bytes_of};
 ghost use Rattle.client_verify.specs.Accepted.{client_of};
 ghost use Rattle.client_verify.specs.Texts.{texts_of, IsWrongText, AreWrong};
 
+use crate::refused::Refused;
 use crate::{Verified, verify_typed};
 use client_code::parse_typed;
-use client_output::Refused;
 use seg_layout::TypeTable;
 use seg_raw::Fault;
 use std::alloc::Allocator;

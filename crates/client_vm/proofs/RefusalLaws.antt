@@ -20,7 +20,7 @@ use Rattle.client_spec.specs.Clients.{IsVerified}
 use Rattle.client_spec.specs.OnImages.{Move}
 use Rattle.client_spec.specs.Outcome.{CanMove, IsTurnOf}
 use Rattle.client_verify.specs.Refusals.{IsRefused}
-use Rattle.client_output.specs.declared.refused.Refused.{Refused}
+use Rattle.client_verify.specs.declared.refused.Refused.{Refused}
 use Rattle.client_verify.specs.Texts.{IsWrongAt, IsWrongBy, AreWrong}
 use Rattle.client_vm.specs.Admitted.{IsWrongFor, IsWrong}
 use Rattle.client_vm.specs.Jobs.{Job}

@@ -3,7 +3,7 @@ use Rattle.std.proofs.Common.{◌≡◌, ℕ, ◌+◌, ◌<◌, Bool, true, fals
 use Rattle.std.specs.Prelude.{if◌then◌else◌}
 use Rattle.std.proofs.lemmas.List.{map-append, length-map, length-take-le, take-append-drop}
 use Rattle.client_verify.proofs.TextsLaws.{mapped_front}
-use Rattle.client_output.specs.declared.report.Report.{Report}
+use Rattle.client_vm.specs.declared.report.Report.{Report}
 use Rattle.client_vm.specs.Reports.{IsReportOf, AreReportsOf}
 
 -- the reports stay right if the next client's is added

@@ -15,9 +15,9 @@ use Rattle.client_spec.specs.OnImages.{Move, Given, Left}
 use Rattle.client_spec.specs.Clients.{AreMoves, AreAccepted, GoesOn, RunClients, StayWithin, outputs, image_after, ending_after}
 use Rattle.client_sim.specs.Writes.{Took}
 use Rattle.client_sim.proofs.Instructions.PrintLaws.{took_more}
-use Rattle.client_output.specs.declared.report.Report.{Report}
-use Rattle.client_output.specs.declared.report.Ended.{Ended}
-use Rattle.client_output.specs.declared.report.Ended.TheVariants as ended
+use Rattle.client_vm.specs.declared.report.Report.{Report}
+use Rattle.client_vm.specs.declared.report.Ended.{Ended}
+use Rattle.client_vm.specs.declared.report.Ended.TheVariants as ended
 use Rattle.client_vm.specs.Runs.{ending_of, given_of, left_of, IsReadyToRun, MayRun, HasRun}
 use Rattle.client_vm.specs.Jobs.{Effect, job_at}
 use Rattle.client_vm.specs.Outcomes.{AreReports, HasOutcome}

@@ -7,7 +7,7 @@ use Rattle.seg_raw.specs.declared.fault.Fault.{Fault}
 use Rattle.seg_check.specs.Faults.{IsFaultOf}
 use Rattle.client_spec.specs.Syntax.{Client}
 use Rattle.client_spec.specs.Clients.{AreAccepted}
-use Rattle.client_output.specs.declared.refused.Refused.{Refused}
+use Rattle.client_verify.specs.declared.refused.Refused.{Refused}
 use Rattle.client_verify.specs.Texts.{IsWrongAt}
 
 pub record AreAcceptedOn (image : List ℕ) (texts : List (List ℕ)) : Type 0 where

@@ -1,3 +1,4 @@
+pub mod Sinks
 pub mod Moves
 pub mod ReadyClients
 pub mod Runs

@@ -16,8 +16,8 @@ use Rattle.client_spec.specs.OnImages.{Move, Left}
 use Rattle.client_spec.specs.Clients.{outputs, image_after, ending_after, table_after, StayWithin}
 use Rattle.client_spec.specs.Outcome.{CanRun, IsOutcome, Refusal, IsTurnOf, IsRefusalOf}
 use Rattle.client_verify.specs.Refusals.{IsRefused}
-use Rattle.client_output.specs.declared.report.Report.{Report}
-use Rattle.client_output.specs.declared.refused.Refused.{Refused}
+use Rattle.client_vm.specs.declared.report.Report.{Report}
+use Rattle.client_verify.specs.declared.refused.Refused.{Refused}
 use Rattle.client_sim.specs.Writes.{Took}
 use Rattle.client_vm.specs.Runs.{ending_of}
 use Rattle.client_vm.specs.Jobs.{Job, Effect}

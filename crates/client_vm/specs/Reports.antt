@@ -7,8 +7,8 @@ use Rattle.std.specs.Prelude.{◌≡◌, ⊤, ℕ, ◌≤◌, List, [], ◌∷�
 use Rattle.client_spec.specs.Syntax.{Client}
 use Rattle.client_spec.specs.Grammar.{SpellsClient}
 use Rattle.client_spec.specs.Run.{bound}
-use Rattle.client_output.specs.declared.report.Report.{Report}
-use Rattle.client_output.specs.declared.report.Ended.{Ended}
+use Rattle.client_vm.specs.declared.report.Report.{Report}
+use Rattle.client_vm.specs.declared.report.Ended.{Ended}
 use Rattle.client_vm.specs.Runs.{ending_of}
 use Rattle.client_program.specs.Paths.{IsPath}
 

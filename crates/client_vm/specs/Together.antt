@@ -11,7 +11,7 @@ use Rattle.client_spec.specs.Run.{Ending, finished, stopped}
 use Rattle.client_spec.specs.OnImages.{Move, Left}
 use Rattle.client_spec.specs.Clients.{AreMoves, AreAccepted, RunClients, StayWithin, outputs, image_after, ending_after}
 use Rattle.client_sim.specs.Writes.{Took}
-use Rattle.client_output.specs.declared.report.Report.{Report}
+use Rattle.client_vm.specs.declared.report.Report.{Report}
 use Rattle.client_vm.specs.ReadyClients.{texts_in}
 use Rattle.client_vm.specs.Runs.{ending_of, given_of}
 use Rattle.client_vm.specs.declared.bytes.Admitted.{Admitted}

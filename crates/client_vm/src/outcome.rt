@@ -1,7 +1,8 @@
 ghost use Rattle.std.specs.Prelude.{◌≡◌};
 
 use crate::moves::Move;
-use client_output::{Ended, Refused, Report};
+use crate::report::{Ended, Report};
+use client_verify::Refused;
 use std::alloc::Allocator;
 
 /// The region that clients run in: its length `room` and the segment's `base`, in bytes, and the moves, which each client makes

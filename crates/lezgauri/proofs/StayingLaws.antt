@@ -5,7 +5,7 @@ use Rattle.seg_spec.specs.Window.{Placement}
 use Rattle.seg_spec.specs.Index.{Root}
 use Rattle.client_spec.specs.Syntax.{Client}
 use Rattle.client_spec.specs.OnImages.{Move}
-use Rattle.client_output.specs.declared.report.Report.{Report}
+use Rattle.client_vm.specs.declared.report.Report.{Report}
 use Rattle.client_sim.specs.Staying.{code_passes, keeps_name, keeps_unique, NameStays, UniqueStays}
 use Rattle.client_sim.proofs.Names.ObjectRunLaws.{client_keeps_name, client_keeps_unique}
 use Rattle.client_vm.specs.Runs.{given_of, left_of, HasRun}

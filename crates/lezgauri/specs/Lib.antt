@@ -55,9 +55,9 @@ pub use Rattle.client_vm.specs.Runs
 pub use Rattle.client_vm.specs.Jobs
 pub use Rattle.client_vm.specs.Outcomes
 pub use Rattle.client_vm.specs.Together
-pub use Rattle.client_output.specs.declared.report.Report
-pub use Rattle.client_output.specs.declared.report.Ended
-pub use Rattle.client_output.specs.declared.refused.Refused
+pub use Rattle.client_vm.specs.declared.report.Report
+pub use Rattle.client_vm.specs.declared.report.Ended
+pub use Rattle.client_verify.specs.declared.refused.Refused
 -- what an output took
 pub use Rattle.client_sim.specs.Writes
 -- the positions of named objects before and after a run

@@ -4,6 +4,7 @@ mod files;
 mod operations;
 mod programs;
 mod random;
+mod script;
 mod sharing;
 mod support;
 mod texts;

@@ -2,7 +2,7 @@ use Rattle.std.proofs.Common.{◌≡◌, ℕ, suc, add-one, ◌+◌, Bool, false
 use Rattle.std.proofs.Math.Seq.{drop-cons}
 use Rattle.std.proofs.lemmas.List.{drop_all}
 use Rattle.client_code.specs.Clients.{bytes_of}
-use Rattle.client_output.specs.declared.report.Report.{Report}
+use Rattle.client_vm.specs.declared.report.Report.{Report}
 use Rattle.client_vm.specs.Moves.{moves_of}
 use Rattle.client_vm.specs.ReadyClients.{client_in, texts_in}
 use Rattle.client_vm.specs.Reports.{AreReportsOf}
