@@ -2,7 +2,7 @@
 -- claim nothing.
 --     Access                         the name of a file, and the bytes read from it or written to it
 --     access name bytes              one access
---     Adds before after accesses     these accesses were added, in this order
+--     AddsAccesses before after accesses  these accesses were added, in this order
 --     accesses_of names texts        an access for each name, with its bytes
 use Rattle.std.specs.Prelude.{◌≡◌, ℕ, List, [], ◌∷◌, ◌++◌, Option, Some, IfSome}
 
@@ -13,8 +13,8 @@ pub record Access : Type 0 where
 abbrev pub access : List ℕ → List ℕ → Access
 access name bytes = record { name = name; bytes = bytes }
 
-abbrev pub Adds : Option (List Access) → Option (List Access) → List Access → Type 0
-Adds before after accesses = IfSome before (λ done. after ≡ Some (done ++ accesses))
+abbrev pub AddsAccesses : Option (List Access) → Option (List Access) → List Access → Type 0
+AddsAccesses before after accesses = IfSome before (λ done. after ≡ Some (done ++ accesses))
 
 -- the lists have the same length
 abbrev pub accesses_of : List (List ℕ) → List (List ℕ) → List Access

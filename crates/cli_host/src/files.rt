@@ -1,5 +1,5 @@
 ghost use Rattle.std.specs.Prelude.{◌≡◌, [], ◌∷◌, List, Option, None, IfOk, OnOk, OnErr};
-ghost use Rattle.cli_host.specs.Accesses.{Access, Adds, access};
+ghost use Rattle.cli_host.specs.Accesses.{Access, AddsAccesses, access};
 
 use crate::problem::FileProblem;
 use std::alloc::Global;
@@ -23,7 +23,7 @@ pub trait Files {
 
     /// The bytes of a file. Fails if it has more than `limit`.
     fn read(&mut self, alloc: Global, name: &str, limit: u64) -> Result<Vec<u8>, FileFault>
-        ensures read { IfOk result (λ bytes. Adds (was_read self.old) (was_read self.new)
+        ensures read { IfOk result (λ bytes. AddsAccesses (was_read self.old) (was_read self.new)
             (access name.now bytes.items ∷ [])) }
         ensures nothing_read { OnErr result (was_read self.new ≡ was_read self.old) }
         ensures nothing_written { was_written self.new ≡ was_written self.old };
@@ -31,7 +31,7 @@ pub trait Files {
     /// Makes or replaces a file. If it fails, an existing file is unchanged, except that a disk that fails at the very end can
     /// leave all the new bytes.
     fn write(&mut self, name: &str, bytes: &[u8]) -> Result<(), FileFault>
-        ensures written { OnOk result (Adds (was_written self.old) (was_written self.new)
+        ensures written { OnOk result (AddsAccesses (was_written self.old) (was_written self.new)
             (access name.now bytes.now ∷ [])) }
         ensures nothing_written { OnErr result (was_written self.new ≡ was_written self.old) }
         ensures nothing_read { was_read self.new ≡ was_read self.old };

@@ -1,5 +1,5 @@
 ghost use Rattle.std.specs.Prelude.{◌≡◌, [], ◌∷◌, length, map, IfOk, OnOk, OnErr};
-ghost use Rattle.cli_host.specs.Accesses.{Adds, access, accesses_of};
+ghost use Rattle.cli_host.specs.Accesses.{AddsAccesses, access, accesses_of};
 
 use crate::files::{FileFault, Files};
 use crate::problem::FileProblem;
@@ -35,7 +35,7 @@ pub fn read_image<'a, F: Files>(
     files: &mut F,
     name: &'a str,
 ) -> Result<Vec<u8>, FileFailure<'a>>
-    ensures read { IfOk result (λ bytes. Adds (F.was_read files.old) (F.was_read files.new)
+    ensures read { IfOk result (λ bytes. AddsAccesses (F.was_read files.old) (F.was_read files.new)
         (access name.now bytes.items ∷ [])) }
     ensures nothing_read { OnErr result (F.was_read files.new ≡ F.was_read files.old) }
     ensures nothing_written { F.was_written files.new ≡ F.was_written files.old }
@@ -49,7 +49,7 @@ pub fn read_file<'a, F: Files>(
     files: &mut F,
     name: &'a str,
 ) -> Result<Vec<u8>, FileFailure<'a>>
-    ensures read { IfOk result (λ bytes. Adds (F.was_read files.old) (F.was_read files.new)
+    ensures read { IfOk result (λ bytes. AddsAccesses (F.was_read files.old) (F.was_read files.new)
         (access name.now bytes.items ∷ [])) }
     ensures nothing_read { OnErr result (F.was_read files.new ≡ F.was_read files.old) }
     ensures nothing_written { F.was_written files.new ≡ F.was_written files.old }
@@ -64,7 +64,7 @@ pub fn read_files<'a, F: Files>(
     names: &[&'a str],
 ) -> Result<Vec<Vec<u8>>, FileFailure<'a>>
     ensures all { IfOk result (λ all. length all.items ≡ length names.now) }
-    ensures read { IfOk result (λ all. Adds (F.was_read files.old) (F.was_read files.new)
+    ensures read { IfOk result (λ all. AddsAccesses (F.was_read files.old) (F.was_read files.new)
         (accesses_of (map (λ name. name.now) names.now) (map (λ bytes. bytes.items) all.items))) }
     ensures nothing_written { F.was_written files.new ≡ F.was_written files.old }
 {
@@ -84,7 +84,7 @@ pub fn write_file<'a, F: Files>(
     name: &'a str,
     bytes: &[u8],
 ) -> Result<(), FileFailure<'a>>
-    ensures written { OnOk result (Adds (F.was_written files.old) (F.was_written files.new)
+    ensures written { OnOk result (AddsAccesses (F.was_written files.old) (F.was_written files.new)
         (access name.now bytes.now ∷ [])) }
     ensures nothing_written { OnErr result (F.was_written files.new ≡ F.was_written files.old) }
     ensures nothing_read { F.was_read files.new ≡ F.was_read files.old }
@@ -101,7 +101,7 @@ fn read<'a, F: Files>(
     name: &'a str,
     limit: u64,
 ) -> Result<Vec<u8>, FileFailure<'a>>
-    ensures read { IfOk result (λ bytes. Adds (F.was_read files.old) (F.was_read files.new)
+    ensures read { IfOk result (λ bytes. AddsAccesses (F.was_read files.old) (F.was_read files.new)
         (access name.now bytes.items ∷ [])) }
     ensures nothing_read { OnErr result (F.was_read files.new ≡ F.was_read files.old) }
     ensures nothing_written { F.was_written files.new ≡ F.was_written files.old }

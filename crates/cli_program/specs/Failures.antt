@@ -7,7 +7,7 @@ use Rattle.seg_raw.specs.declared.fault.Fault.TheVariants.{Memory}
 use Rattle.client_verify.specs.declared.refused.Refused.{Refused}
 use Rattle.client_vm.specs.declared.report.Ended.{Ended}
 use Rattle.client_vm.specs.declared.report.Ended.TheVariants.{OutputFailed}
-use Rattle.cli_host.specs.Accesses.{Access, Adds}
+use Rattle.cli_host.specs.Accesses.{Access, AddsAccesses}
 use Rattle.cli_host.specs.declared.named.FileFailure.{FileFailure}
 use Rattle.cli_host.specs.declared.named.FileFailure.TheVariants as file_failure
 use Rattle.cli_program.specs.declared.failure.Failure.{Failure}
@@ -29,4 +29,4 @@ IsUnsaved before after saved ended (failure.Refused refused) =
     (after ≡ before) × (refused ≡ out_of_memory)
 IsUnsaved before after saved ended (failure.File name problem) = after ≡ before
 IsUnsaved before after saved ended failure.Output =
-    (ended ≡ OutputFailed) × ((after ≡ before) ⊎ Adds before after (saved ∷ []))
+    (ended ≡ OutputFailed) × ((after ≡ before) ⊎ AddsAccesses before after (saved ∷ []))

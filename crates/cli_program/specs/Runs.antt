@@ -5,7 +5,7 @@
 --     WasRead run before after it    they were read from the files that the command line names
 --     room_of run len                the length of the region, for an image of `len` bytes
 --     job_of_run run it              what the clients run on
---     HasRun ..                      the files were read, and the clients ran on their bytes
+--     HasRunFiles ..                 the files were read, and the clients ran on their bytes
 --     HasSaved ..                    so they ran to their end, and the saved image was written
 --     HasFailed ..                   why the command failed, and what it wrote
 use Rattle.std.specs.Prelude.{◌≡◌, ◌⊎◌, ℕ, ◌+◌, ◌-◌, ◌^◌, min, List, [], ◌∷◌, ◌++◌, length, map, Option, Some, None, IfNone, unwrap_or}
@@ -16,7 +16,7 @@ use Rattle.client_vm.specs.declared.report.Ended.TheVariants.{Done, OutputFailed
 use Rattle.client_verify.specs.declared.refused.Refused.{Refused}
 use Rattle.client_vm.specs.Jobs.{Job, job_at, effect_at}
 use Rattle.client_vm.specs.Outcomes.{HasOutcome, IsRefusedFor}
-use Rattle.cli_host.specs.Accesses.{Access, Adds, access, accesses_of}
+use Rattle.cli_host.specs.Accesses.{Access, AddsAccesses, access, accesses_of}
 use Rattle.cli_host.specs.declared.run.Run.{Run}
 use Rattle.cli_program.specs.declared.inputs.Inputs.{Inputs}
 use Rattle.cli_program.specs.declared.failure.Failure.{Failure}
@@ -44,7 +44,7 @@ input_read (Some name) bytes = access name.now bytes ∷ []
 pub record WasRead (run : Run) (before after : Option (List Access)) (it : Read) : Type 0 where
   pub clients : length it.texts ≡ length run.clients.items
   pub no_input : IfNone run.input (it.input ≡ [])
-  pub accesses : Adds before after
+  pub accesses : AddsAccesses before after
       (access run.image.now it.image ∷
       (accesses_of (map (λ client. client.now) run.clients.items) it.texts ++
       input_read run.input it.input))
@@ -64,7 +64,7 @@ IsRefusal job refused = (refused ≡ out_of_memory) ⊎ IsRefusedFor job refused
 module _ (run : Run) (reads reads_then : Option (List Access)) where
   -- The clients ran on the bytes that were read, at the base and in the room of the command line.
   -- The output and the saved image are those of the abstract machine.
-  pub record HasRun (taken taken_then : Option (List ℕ)) (saved : List ℕ) (ended : Ended) :
+  pub record HasRunFiles (taken taken_then : Option (List ℕ)) (saved : List ℕ) (ended : Ended) :
       Type 0 where
     pub it : Read
     pub was_read : WasRead run reads reads_then it
@@ -80,17 +80,17 @@ module _ (run : Run) (reads reads_then : Option (List Access)) where
   module _ (writes writes_then : Option (List Access)) where
     -- the saved image was written to the file that the command line names, and nothing else was
     abbrev pub WasSaved : List ℕ → Type 0
-    WasSaved saved = Adds writes writes_then (access run.out.now saved ∷ [])
+    WasSaved saved = AddsAccesses writes writes_then (access run.out.now saved ∷ [])
 
     pub record HasSaved (taken taken_then : Option (List ℕ)) : Type 0 where
       pub saved : List ℕ
-      pub has_run : HasRun taken taken_then saved Done
+      pub has_run : HasRunFiles taken taken_then saved Done
       pub was_saved : WasSaved saved
 
     -- the output failed; the saved image was written, unless its file failed too
     pub record OutputFails (taken taken_then : Option (List ℕ)) : Type 0 where
       pub saved : List ℕ
-      pub has_run : HasRun taken taken_then saved OutputFailed
+      pub has_run : HasRunFiles taken taken_then saved OutputFailed
       pub was_saved : (writes_then ≡ writes) ⊎ WasSaved saved
 
     abbrev pub HasFailed : Option (List ℕ) → Option (List ℕ) → Failure → Type 0

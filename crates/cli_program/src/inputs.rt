@@ -1,5 +1,5 @@
 ghost use Rattle.std.specs.Prelude.{◌≡◌, [], map, IfOk, IfNone};
-ghost use Rattle.cli_host.specs.Accesses.{Adds};
+ghost use Rattle.cli_host.specs.Accesses.{AddsAccesses};
 ghost use Rattle.cli_program.specs.Runs.{WasRead, input_read, read_of};
 
 use cli_host::{
@@ -65,7 +65,7 @@ pub fn read_input<'a, F: Files>(
     files: &mut F,
     name: Option<&'a str>,
 ) -> Result<Vec<u8>, FileFailure<'a>>
-    ensures read { IfOk result (λ bytes. Adds (F.was_read files.old) (F.was_read files.new)
+    ensures read { IfOk result (λ bytes. AddsAccesses (F.was_read files.old) (F.was_read files.new)
         (input_read name.entry bytes.items)) }
     ensures empty { IfOk result (λ bytes. IfNone name.entry (bytes.items ≡ [])) }
     ensures nothing_written { F.was_written files.new ≡ F.was_written files.old }

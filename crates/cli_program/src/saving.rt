@@ -1,5 +1,5 @@
 ghost use Rattle.std.specs.Prelude.{◌≡◌, [], ◌∷◌, OnOk, IfErr};
-ghost use Rattle.cli_host.specs.Accesses.{Adds, access};
+ghost use Rattle.cli_host.specs.Accesses.{AddsAccesses, access};
 ghost use Rattle.cli_program.specs.Failures.{IsUnsaved};
 
 use crate::failure::Failure;
@@ -14,7 +14,7 @@ pub fn save<'a, F: Files>(
     ended: Ended,
 ) -> Result<(), Failure<'a>>
     ensures done { OnOk result (ended ≡ Ended.Done) }
-    ensures saved { OnOk result (Adds (F.was_written files.old) (F.was_written files.new)
+    ensures saved { OnOk result (AddsAccesses (F.was_written files.old) (F.was_written files.new)
         (access name.now image.now ∷ [])) }
     ensures unsaved { IfErr result (IsUnsaved (F.was_written files.old) (F.was_written files.new)
         (access name.now image.now) ended) }

@@ -26,7 +26,7 @@ use Rattle.client_sim.proofs.Instructions.ShareLaws.{share_acts}
 use Rattle.client_vm.proofs.ObjectLaws.{instruction_with, acts_by, refused_by}
 use Rattle.client_vm.specs.declared.machine.Machine.{Machine}
 use Rattle.client_vm.specs.Positions.{place_at}
-use Rattle.client_vm.specs.Worlds.{constants_in, world_of, GivesNumber, GivesUp, Acts, OpensPart}
+use Rattle.client_vm.specs.Worlds.{constants_in, world_of, GivesNumber, GivesUp, DoesRow, OpensPart}
 
 Err_inj : {A B : Type 0} {x y : B} → ◌≡◌ {A = Result A B} (Err x) (Err y) → x ≡ y
 Err_inj e = cc
@@ -46,7 +46,7 @@ module _ (allocator : ℕ) (i : Instruction) (old : Machine) (before after : Sto
   abbrev pub Shares : Stored → Place → Place → Type 0
   Shares h p q = SharesCell allocator h.window.bytes after.window.bytes h.types p q
 
-  pub share_does : (from : declared_place.Place) → place_of from ≡ place_at old i.c → Shares heap (place_of to) (place_of from) → Acts Operation.Share allocator i old old before after
+  pub share_does : (from : declared_place.Place) → place_of from ≡ place_at old i.c → Shares heap (place_of to) (place_of from) → DoesRow Operation.Share allocator i old old before after
   share_does from from_is call is = acts_by allocator i Role.Plain old old old before after Operation.Share is refl (λ taken.
       let w = world_of old before taken in
       let called = subst (Shares before (place_at old i.b)) from_is (at_cell (λ h p. Shares h p (place_of from)) call) in

@@ -14,7 +14,7 @@ use Rattle.lezgauri.specs.Image.{Image}
 use Rattle.lezgauri.specs.Images.{segment_of, bytes_in, types_of, IsOpen}
 use Rattle.lezgauri_c.specs.declared.place.Place as told
 use Rattle.lezgauri_c.specs.Changes.{code_status, TellsPlace, TellsFound, IsStillSound}
-use Rattle.lezgauri_c.specs.ImageChanges.{Constructs, FindsOrConstructs, Destroys}
+use Rattle.lezgauri_c.specs.ImageChanges.{Constructs, FindsOrConstructs, DestroysNamed}
 use Rattle.lezgauri_c.proofs.ChangeLaws.{sound_then}
 
 -- ---- refusals
@@ -49,7 +49,7 @@ module _ {A : Type 0} (opened left : Image A) where
   image_same same = ap (λ (i : Image A). bytes_in i) same
 
   -- nothing was destroyed
-  pub destroy_kept : (name : List ℕ) (T status : ℕ) (found : Bool) → TellsFound status found → 0 < status → Destroys name T opened left found → bytes_in left ≡ bytes_in opened
+  pub destroy_kept : (name : List ℕ) (T status : ℕ) (found : Bool) → TellsFound status found → 0 < status → DestroysNamed name T opened left found → bytes_in left ≡ bytes_in opened
   destroy_kept name T status true told some it = absurd (omega (arith, told, some))
   destroy_kept name T status false told some it = image_same (it.unchanged refl)
 
@@ -116,6 +116,6 @@ module _ {A : Type 0} (opened left : Image A) where
       find_kept status before after (Ok place) told some other it = let done = told.0 in absurd (omega arith)
       find_kept status before after (Err e) told some other it = find_same e (other_code status e other told.0) it
 
-      pub destroy_sound : (found : Bool) → Destroys name T opened left found → picture.loose ≡ [] → IsStillSound (bytes_in opened) (bytes_in left)
+      pub destroy_sound : (found : Bool) → DestroysNamed name T opened left found → picture.loose ≡ [] → IsStillSound (bytes_in opened) (bytes_in left)
       destroy_sound true it none = sound_then (it.loses picture held refl).becomes none
       destroy_sound false it none = sound_still none (image_same (it.unchanged refl))

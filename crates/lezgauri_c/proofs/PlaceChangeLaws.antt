@@ -43,7 +43,7 @@ use Rattle.lezgauri.specs.Images.{segment_of, allocator_of, bytes_in, types_of, 
 use Rattle.lezgauri_c.specs.declared.kept_types.KeptTypes.{KeptTypes}
 use Rattle.lezgauri_c.specs.Changes.{Calls, IsStillSound, StaysSound, StaysSoundFrom}
 use Rattle.lezgauri_c.specs.Values.{table_in}
-use Rattle.lezgauri_c.specs.ImageChanges.{Assigns, Appends, PushesItem, PushesItemFront, PopsItem, PopsItemFront, Puts, Removes, PutsContent, Shares, Clears, ShrinksBuffer}
+use Rattle.lezgauri_c.specs.ImageChanges.{Assigns, Appends, PushesItemBack, PushesItemFront, PopsItem, PopsItemFront, Puts, Removes, PutsContent, Shares, Clears, ShrinksBuffer}
 
 -- ---- from a call on an open image to the bytes in lent memory
 
@@ -180,7 +180,7 @@ module _ {A : Type 0} (opened left : Image A) (place : Place) (picture : Picture
   front_added : (vs : Values) (U : ℕ) → names_in (Seq vs) ≡ names_in (Seq (cons (default U) vs))
   front_added vs U = names_seq vs ∙ sym (front_named (default U) vs (default_names (types_of opened) U)) ∙ sym (names_seq (cons (default U) vs))
 
-  pub push_back_stays : (r : Result Place Code) → PushesItem place opened left r → Left
+  pub push_back_stays : (r : Result Place Code) → PushesItemBack place opened left r → Left
   push_back_stays r it = by_form form refl
     where
       vector : (U : ℕ) (vs : Values) (f : Found (Seq vs)) (r : Result Place Code)

@@ -9,7 +9,7 @@
 --     Calls old new types status tells claim
 --                             a sound image was opened with its types, which C keeps, for a call,
 --                             whose result is reported; other bytes may be refused
---     GivesPlace, IsDone, IsFound, IsOver
+--     GivesPlace, IsDone, IsFound, IsAnswered
 --                             the same, for a call that returns a place or a code, nothing or a
 --                             code, whether something was there, and nothing
 --     IsStillSound old new    a sound image of the same size is left
@@ -97,9 +97,9 @@ abbrev pub IsFound : List ℕ → List ℕ → KeptTypes → ℕ →
     (Image Lodged → Image Lodged → Bool → Type 0) → Type 0
 IsFound old new types status claim = Calls old new types status (TellsFound status) claim
 
-abbrev pub IsOver : List ℕ → List ℕ → KeptTypes → ℕ →
+abbrev pub IsAnswered : List ℕ → List ℕ → KeptTypes → ℕ →
     (Image Lodged → Image Lodged → Type 0) → Type 0
-IsOver old new types status claim = Calls {R = Unit {0}} old new types status
+IsAnswered old new types status claim = Calls {R = Unit {0}} old new types status
     (λ _. status ≡ 0) (λ opened left _. claim opened left)
 
 -- the bytes are those of a sound image again, and are as many

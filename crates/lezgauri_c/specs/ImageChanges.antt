@@ -1,10 +1,10 @@
 -- What a call of `Image` that changes it promises, for the image before and after the call and for
 -- the call's result. The allocator and the types of an open image stay, and so does the memory around
 -- it (`ChangesBytes`).
---     Constructs, FindsOrConstructs, Destroys
+--     Constructs, FindsOrConstructs, DestroysNamed
 --     ConstructsUnique, FindsOrConstructsUnique, DestroysUnique
---     Assigns, Appends, PushesItem, PushesItemFront, PopsItem, PopsItemFront
---     Puts, Removes, PutsContent, Freezes, Shares
+--     Assigns, Appends, PushesItemBack, PushesItemFront, PopsItem, PopsItemFront
+--     Puts, Removes, PutsContent, FreezesInto, Shares
 --     ConstructsAnonymous, DestroysAnonymous, Clears, ShrinksBuffer
 use Rattle.std.specs.Prelude.{◌≡◌, ◌≢◌, ◌+◌, ◌-◌, ◌<◌, ◌≤◌, ◌^◌, ℕ, suc, ℤ, List, [], ◌∷◌, ◌++◌, length, take, Bool, true, false, Some, None, Result, Err, IsOk, IsTrue, IfOk, IsOkUnless, MatchResult, is_ok}
 use Rattle.std.specs.List.{AllByRecursion}
@@ -81,7 +81,7 @@ pub record FindsOrConstructs {A : Type 0} (name : List ℕ) (T : ℕ) (old new :
       FindsNoRoom (allocator_of old) (segment_of old) (segment_of new) picture
       (object_asks (bytes_in old) (types_of old) T 1 name)
 
-pub record Destroys {A : Type 0} (name : List ℕ) (T : ℕ) (old new : Image A)
+pub record DestroysNamed {A : Type 0} (name : List ℕ) (T : ℕ) (old new : Image A)
     (result : Bool) : Type 0 where
   pub bytes : ChangesBytes old new
   pub tells : (picture : Picture) → IsOpen old picture →
@@ -148,7 +148,7 @@ pub record Appends {A : Type 0} (place : Place) (more : List ℕ) (old new : Ima
 
 -- ---- vectors and lists
 
-pub record PushesItem {A : Type 0} (place : Place) (old new : Image A)
+pub record PushesItemBack {A : Type 0} (place : Place) (old new : Image A)
     (result : Result Place Code) : Type 0 where
   pub bytes : ChangesBytes old new
   pub of_type : IfOk result
@@ -277,7 +277,7 @@ pub record PutsContent {A : Type 0} (own : Place) (old new : Image A)
   pub other : object_type (form_at (types_of old) own.type_id) ≡ None →
       (result ≡ Err code.OtherType) × (new ≡ old)
 
-pub record Freezes {A : Type 0} (own shared : Place) (old new : Image A)
+pub record FreezesInto {A : Type 0} (own shared : Place) (old new : Image A)
     (result : Result (Unit {0}) Code) : Type 0 where
   pub bytes : ChangesBytes old new
   pub other : ((U : ℕ) → OwnAndShared (types_of old) own shared U → ⊥) →

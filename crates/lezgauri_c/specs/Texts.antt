@@ -4,7 +4,7 @@
 --     IsNoTextAs text fault      why a text isn't assembled, as it is reported
 --     IsNoFileAs file fault      why a file isn't printed, as it is reported
 --     HasBytes P old new needed  the caller's memory begins with bytes that a call made
---     LacksRoom P old needed     the caller's memory is too small for them
+--     HasTooLittleRoom P old needed  the caller's memory is too small for them
 use Rattle.std.specs.Prelude.{◌≡◌, ◌⊎◌, ◌<◌, ℕ, List, ◌++◌, Option, Some, None, length, drop}
 use Rattle.seg_raw.specs.declared.fault.Fault as seg_raw_fault
 use Rattle.seg_raw.specs.declared.fault.Fault.TheVariants as fault
@@ -63,6 +63,6 @@ abbrev pub HasBytes : (List ℕ → Type 0) → List ℕ → List ℕ → ℕ �
 HasBytes P old new needed = (made : List ℕ) × P made × (needed ≡ length made) ×
     (new ≡ made ++ drop (length made) old)
 
-abbrev pub LacksRoom : (List ℕ → Type 0) → List ℕ → ℕ → Type 0
-LacksRoom P old needed =
+abbrev pub HasTooLittleRoom : (List ℕ → Type 0) → List ℕ → ℕ → Type 0
+HasTooLittleRoom P old needed =
     (made : List ℕ) × P made × (needed ≡ length made) × (length old < needed)

@@ -1,5 +1,5 @@
 ghost use Rattle.std.specs.Prelude.{◌≡◌, ◌<◌};
-ghost use Rattle.lezgauri_c.specs.Changes.{type_number, GivesPlace, IsOver};
+ghost use Rattle.lezgauri_c.specs.Changes.{type_number, GivesPlace, IsAnswered};
 ghost use Rattle.lezgauri_c.specs.ImageChanges.{ConstructsAnonymous, DestroysAnonymous};
 ghost use Rattle.lezgauri_c.specs.Memory.{memory_of};
 ghost use Rattle.lezgauri_c.specs.Values.{table_in};
@@ -40,7 +40,7 @@ pub extern "C" fn lezgauri_raw_destroy_anonymous(
     types: &mut KeptTypes,
     at: u32,
 ) -> u32
-    ensures destroys { IsOver image.old.bytes image.new.bytes types.old result
+    ensures destroys { IsAnswered image.old.bytes image.new.bytes types.old result
         (DestroysAnonymous at) }
     ensures home { memory_of image.new ≡ memory_of image.old }
     ensures same { table_in types.new ≡ table_in types.old }

@@ -1,6 +1,6 @@
 ghost use Rattle.std.specs.Prelude.{◌≡◌, ◌≢◌, ◌<◌};
 ghost use Rattle.lezgauri_c.specs.Changes.{type_number, GivesPlace, IsFound, IsStillSound};
-ghost use Rattle.lezgauri_c.specs.ImageChanges.{Constructs, FindsOrConstructs, Destroys};
+ghost use Rattle.lezgauri_c.specs.ImageChanges.{Constructs, FindsOrConstructs, DestroysNamed};
 ghost use Rattle.lezgauri_c.specs.Memory.{memory_of};
 ghost use Rattle.lezgauri_c.specs.Values.{table_in, OnSound};
 
@@ -74,7 +74,7 @@ pub extern "C" fn lezgauri_raw_destroy(
     type_id: u32,
 ) -> u32
     ensures destroys { IsFound image.old.bytes image.new.bytes types.old result
-        (Destroys name.now (type_number type_id)) }
+        (DestroysNamed name.now (type_number type_id)) }
     ensures sound { OnSound image.old.bytes types.old
         (λ _. IsStillSound image.old.bytes image.new.bytes) }
     ensures kept { 0 < result → image.new.bytes ≡ image.old.bytes }

@@ -1,6 +1,6 @@
 ghost use Rattle.std.specs.Prelude.{◌≡◌, ◌<◌};
 ghost use Rattle.lezgauri_c.specs.Changes.{place_at, GivesPlace, IsDone, StaysSound, StaysSoundFrom};
-ghost use Rattle.lezgauri_c.specs.ImageChanges.{PutsContent, Freezes, Shares};
+ghost use Rattle.lezgauri_c.specs.ImageChanges.{PutsContent, FreezesInto, Shares};
 ghost use Rattle.lezgauri_c.specs.Memory.{memory_of};
 ghost use Rattle.lezgauri_c.specs.Values.{table_in};
 
@@ -46,7 +46,7 @@ pub extern "C" fn lezgauri_raw_freeze(
     to_type_id: u32,
 ) -> u32
     ensures freezes { IsDone image.old.bytes image.new.bytes types.old result
-        (Freezes (place_at at type_id) (place_at to_at to_type_id)) }
+        (FreezesInto (place_at at type_id) (place_at to_at to_type_id)) }
     ensures home { memory_of image.new ≡ memory_of image.old }
     ensures same { table_in types.new ≡ table_in types.old }
 {

@@ -1,6 +1,6 @@
 ghost use Rattle.std.specs.Prelude.{◌≡◌, ◌<◌};
 ghost use Rattle.lezgauri_c.specs.Changes.{place_at, GivesPlace, IsDone, StaysSound};
-ghost use Rattle.lezgauri_c.specs.ImageChanges.{Assigns, Appends, PushesItem, PushesItemFront, PopsItem, PopsItemFront};
+ghost use Rattle.lezgauri_c.specs.ImageChanges.{Assigns, Appends, PushesItemBack, PushesItemFront, PopsItem, PopsItemFront};
 ghost use Rattle.lezgauri_c.specs.Memory.{memory_of};
 ghost use Rattle.lezgauri_c.specs.Values.{table_in};
 
@@ -63,7 +63,7 @@ pub extern "C" fn lezgauri_raw_push_back(
     item: &mut Place,
 ) -> u32
     ensures pushes { GivesPlace image.old.bytes image.new.bytes types.old result item.old item.new
-        (PushesItem (place_at at type_id)) }
+        (PushesItemBack (place_at at type_id)) }
     ensures sound { StaysSound image.old.bytes image.new.bytes types.old (place_at at type_id) }
     ensures unwritten { 0 < result → item.new ≡ item.old }
     ensures home { memory_of image.new ≡ memory_of image.old }

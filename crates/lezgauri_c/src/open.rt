@@ -1,7 +1,7 @@
 ghost use Rattle.std.specs.Prelude.{◌≡◌, ◌≤◌, ◌<◌, [], ◌∷◌};
 ghost use Rattle.seg_spec.specs.Images.{IsSound};
 ghost use Rattle.lezgauri.specs.Ended.{Ended};
-ghost use Rattle.lezgauri_c.specs.Calls.{HasRunOn, IsRefusedAs};
+ghost use Rattle.lezgauri_c.specs.Calls.{HasRunOn, IsReportedAs};
 ghost use Rattle.lezgauri_c.specs.Told.{no_fault, status_number};
 ghost use Rattle.lezgauri_c.specs.Memory.{memory_of};
 
@@ -33,7 +33,7 @@ pub extern "C" fn lezgauri_raw_run_on(
         HasRunOn image.old.bytes client.now input.now ended output.old.bytes output.new.bytes
         image.new.bytes report.new }
     ensures refused { (0 < result) × (result ≤ 100) → IsSound image.old.bytes →
-        IsRefusedAs image.old.bytes (client.now ∷ []) fault.new }
+        IsReportedAs image.old.bytes (client.now ∷ []) fault.new }
     ensures number { (0 < result) × (result ≤ 100) → fault.new.number ≡ result }
     ensures no_fault { (ended : Ended) → result ≡ status_number ended → fault.new ≡ no_fault }
     ensures kept { (0 < result) × (result ≤ 100) → image.new.bytes ≡ image.old.bytes }

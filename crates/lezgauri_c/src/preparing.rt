@@ -6,7 +6,7 @@ ghost use Rattle.client_spec.specs.Clients.{IsVerified};
 ghost use Rattle.lezgauri.specs.Texts.{AreWrong};
 ghost use Rattle.lezgauri.specs.Ended.{Ended};
 ghost use Rattle.client_vm.specs.Admitted.{IsWrong};
-ghost use Rattle.lezgauri_c.specs.Calls.{HasRunOn, IsWrongAs, IsRefusedAs};
+ghost use Rattle.lezgauri_c.specs.Calls.{HasRunOn, IsWrongAs, IsReportedAs};
 ghost use Rattle.lezgauri_c.specs.Prepared.{in_hand, client_bytes_of, IsReadyOn, HoldsClient, OfClient};
 ghost use Rattle.lezgauri_c.specs.Told.{no_fault, status_number};
 ghost use Rattle.lezgauri_c.specs.Memory.{memory_of};
@@ -83,7 +83,7 @@ pub extern "C" fn lezgauri_raw_run_client(
         (λ text. HasRunOn image.old.bytes text input.now ended output.old.bytes
         output.new.bytes image.new.bytes report.new) }
     ensures refused { (0 < result) × (result ≤ 99) → IsSound image.old.bytes →
-        OfClient prepared.old (λ text. IsRefusedAs image.old.bytes (text ∷ []) fault.new) }
+        OfClient prepared.old (λ text. IsReportedAs image.old.bytes (text ∷ []) fault.new) }
     ensures mismatch { (0 < result) × (result ≤ 99) → IsSound image.old.bytes → result ≡ 4 }
     ensures number { (0 < result) × (result ≤ 100) → fault.new.number ≡ result }
     ensures no_fault { (ended : Ended) → result ≡ status_number ended → fault.new ≡ no_fault }

@@ -1,5 +1,5 @@
 ghost use Rattle.std.specs.Prelude.{◌≡◌, ◌⊎◌, ◌<◌, ◌≤◌, ◌++◌, length, drop, IfOk, IfErr};
-ghost use Rattle.lezgauri_c.specs.Texts.{IsAssembled, IsPrinted, IsNoText, IsNoFile, IsNoTextAs, IsNoFileAs, HasBytes, LacksRoom};
+ghost use Rattle.lezgauri_c.specs.Texts.{IsAssembled, IsPrinted, IsNoText, IsNoFile, IsNoTextAs, IsNoFileAs, HasBytes, HasTooLittleRoom};
 ghost use Rattle.lezgauri_c.specs.Told.{no_fault};
 
 use crate::buffer::put;
@@ -22,7 +22,7 @@ pub extern "C" fn lezgauri_raw_assemble(
 ) -> u32
     ensures assembled { result ≡ 0 →
         HasBytes (IsAssembled text.now) file.old file.new needed.new }
-    ensures small { result ≡ 102 → LacksRoom (IsAssembled text.now) file.old needed.new }
+    ensures small { result ≡ 102 → HasTooLittleRoom (IsAssembled text.now) file.old needed.new }
     ensures refused { (0 < result) × (result ≤ 100) →
         IsNoTextAs text.now fault.new × (needed.new ≡ 0) }
     ensures kept { 0 < result → file.new ≡ file.old }
@@ -52,7 +52,7 @@ pub extern "C" fn lezgauri_raw_print(
 ) -> u32
     ensures printed { result ≡ 0 →
         HasBytes (IsPrinted file.now) text.old text.new needed.new }
-    ensures small { result ≡ 102 → LacksRoom (IsPrinted file.now) text.old needed.new }
+    ensures small { result ≡ 102 → HasTooLittleRoom (IsPrinted file.now) text.old needed.new }
     ensures refused { (0 < result) × (result ≤ 100) →
         IsNoFileAs file.now fault.new × (needed.new ≡ 0) }
     ensures kept { 0 < result → text.new ≡ text.old }

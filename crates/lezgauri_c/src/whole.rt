@@ -4,7 +4,7 @@ ghost use Rattle.lezgauri.specs.Ended.{Ended};
 ghost use Rattle.client_vm.specs.Admitted.{IsWrong};
 ghost use Rattle.client_vm.specs.Outcomes.{HasOutcome};
 ghost use Rattle.client_vm.specs.Reports.{IsReportOf};
-ghost use Rattle.lezgauri_c.specs.Calls.{whole_job, effect_of_one, HasRunOn, WantsRoom, IsRefusedAs};
+ghost use Rattle.lezgauri_c.specs.Calls.{whole_job, effect_of_one, HasRunOn, WantsRoom, IsReportedAs};
 ghost use Rattle.lezgauri_c.specs.Told.{no_fault, status_number};
 ghost use Rattle.lezgauri_c.specs.Memory.{memory_of};
 
@@ -41,7 +41,7 @@ pub extern "C" fn lezgauri_raw_run_whole(
         output.old.bytes output.old.room needed.new }
     ensures emptied { result ≡ 101 → output.new.bytes ≡ [] }
     ensures refused { (0 < result) × (result ≤ 100) → IsSound image.old.bytes →
-        IsRefusedAs image.old.bytes (client.now ∷ []) fault.new }
+        IsReportedAs image.old.bytes (client.now ∷ []) fault.new }
     ensures number { (0 < result) × (result ≤ 100) → fault.new.number ≡ result }
     ensures no_fault { (ended : Ended) → result ≡ status_number ended → fault.new ≡ no_fault }
     ensures kept { 0 < result →

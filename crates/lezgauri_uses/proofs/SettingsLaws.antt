@@ -7,7 +7,7 @@ use Rattle.seg_spec.specs.Value.{Values, nil, cons, Int}
 use Rattle.seg_spec.specs.Sound.{Picture, IsHeld}
 use Rattle.seg_spec.specs.Counting.{AreCounted}
 use Rattle.lezgauri_uses.specs.Tables.{table_value, picture_of}
-use Rattle.lezgauri_uses.specs.Settings.{entries_of, Keeps}
+use Rattle.lezgauri_uses.specs.Settings.{entries_of, KeepsSettings}
 use Rattle.lezgauri_uses.specs.declared.settings.Settings.{Settings}
 
 abbrev numbers : ℤ → ℤ → List ℤ × Values
@@ -20,7 +20,7 @@ module _ (image bytes : List ℕ) (settings : Settings) (at : ℕ) (limit port :
       ap (λ (z : ℤ). picture_of at (table_value (numbers z port) text)) limit_is ∙ ap (λ (z : ℤ). picture_of at (table_value (numbers settings.limit z) text)) port_is
       ∙ ap (λ (xs : List ℕ). picture_of at (table_value (entries_of settings) xs)) text_is
 
-  pub keeps : IsHeld bytes (picture_of at (table_value (numbers limit port) text)) → AreCounted (word bytes next_word) (picture_of at (table_value (numbers limit port) text)) → Keeps image settings
+  pub keeps : IsHeld bytes (picture_of at (table_value (numbers limit port) text)) → AreCounted (word bytes next_word) (picture_of at (table_value (numbers limit port) text)) → KeepsSettings image settings
   keeps held counted = record {
     at = at;
     held = subst (λ (p : Picture). IsHeld image p) same_picture (subst (λ (bs : List ℕ). IsHeld bs (picture_of at (table_value (numbers limit port) text))) (sym image_is) held);

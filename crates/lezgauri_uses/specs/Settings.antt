@@ -1,5 +1,5 @@
 -- The settings that an image keeps.
---     Keeps image settings         the image is sound, and has these settings
+--     KeepsSettings image settings  the image is sound, and has these settings
 --     AreSame read settings        the same limit, port and greeting
 use Rattle.std.specs.Prelude.{◌≡◌, ℕ, ℤ, pos, List, [], ◌∷◌}
 use Rattle.seg_spec.specs.Bytes.{word}
@@ -15,7 +15,7 @@ entries_of settings =
     (pos 1 ∷ pos 2 ∷ [], cons (Int settings.limit) (cons (Int settings.port) nil))
 
 -- The image is sound. Its one object has the limit, the port and the greeting.
-pub record Keeps (image : List ℕ) (settings : Settings) : Type 0 where
+pub record KeepsSettings (image : List ℕ) (settings : Settings) : Type 0 where
   pub at : ℕ
   pub held : IsHeld image
       (picture_of at (table_value (entries_of settings) settings.greeting.items))

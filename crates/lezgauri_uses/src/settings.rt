@@ -1,7 +1,7 @@
 ghost use Rattle.std.specs.Prelude.{◌≡◌, ℕ, ℤ, List, [], Some, Ok, IfOk, OnOk, MatchResult};
 ghost use Rattle.seg_spec.specs.Value.{Values, Int, nil};
 ghost use Rattle.lezgauri_uses.specs.Tables.{types, number_at, after_set, ContainsTable, numbers_at, greeting_at};
-ghost use Rattle.lezgauri_uses.specs.Settings.{entries_of, Keeps, AreSame};
+ghost use Rattle.lezgauri_uses.specs.Settings.{entries_of, KeepsSettings, AreSame};
 
 use lezgauri::{
     AllocatorKind, Code, Error, Fault, Fields, Image, ImageRead, IndexKind, Place, Type, TypeId,
@@ -33,7 +33,7 @@ pub struct Settings {
 
 /// The image of a table of settings, as small as possible. Fails with `BadAlloc` if the greeting doesn't fit in 8 KiB.
 pub fn write_settings(alloc: Global, settings: &Settings) -> Result<Vec<u8>, Error>
-    ensures { IfOk result (λ image. Keeps image.items settings.now) }
+    ensures { IfOk result (λ image. KeepsSettings image.items settings.now) }
 {
     let mut image = new_table(alloc)?;
     let (numbers, greeting) = parts_of(&image)?;
@@ -46,7 +46,7 @@ pub fn write_settings(alloc: Global, settings: &Settings) -> Result<Vec<u8>, Err
 
 /// The settings that an image has. If [`write_settings`] returned it, this fails only if host memory is refused.
 pub fn read_settings(alloc: Global, image: Vec<u8>) -> Result<Settings, Error>
-    ensures { (settings : Settings) → Keeps image.items settings →
+    ensures { (settings : Settings) → KeepsSettings image.items settings →
         MatchResult result (λ read. AreSame read settings)
         (λ error. error ≡ Error.Fault Fault.Memory) }
 {

@@ -10,7 +10,7 @@ use Rattle.seg_check.specs.declared.walk.Visit.TheVariants.{Enter, Pass}
 use Rattle.seg_check.specs.Marks.{Known}
 use Rattle.seg_check.specs.Positions.{IsNodeAt, IsLinkAt, of_cell, of_node, of_right}
 use Rattle.seg_check.specs.Resolving.{IsReady}
-use Rattle.seg_check.specs.Walks.{Moves}
+use Rattle.seg_check.specs.Walks.{MovesOn}
 use Rattle.seg_check.proofs.Blocks.LackingBlockLaws.{ready_allocated}
 
 all_joined : (P : Entered → Type 0) (xs : List Entered) (x : Entered) → AllByRecursion P xs → P x → AllByRecursion P (xs ++ x ∷ [])
@@ -40,7 +40,7 @@ module _ (bytes : List ℕ) (table : Table) (known : Known) (ready : IsReady byt
       let small = ready.small in
       omega arith
 
-  pub placed_enter : (old new : Stage) (pointer node : ℕ) → Placed old → Moves bytes old new (Enter pointer) → target bytes pointer ≡ Some node → IsNodeAt bytes tag room node → Placed new
+  pub placed_enter : (old new : Stage) (pointer node : ℕ) → Placed old → MovesOn bytes old new (Enter pointer) → target bytes pointer ≡ Some node → IsNodeAt bytes tag room node → Placed new
   placed_enter old new pointer node p moves names n =
       let moved = moves.1 node names in
       record {
@@ -48,7 +48,7 @@ module _ (bytes : List ℕ) (table : Table) (known : Known) (ready : IsReady byt
         entered = subst (AllByRecursion (λ e. IsNodeAt bytes tag room e.node)) (sym moved.1) (all_joined (λ e. IsNodeAt bytes tag room e.node) old.entered.items (record { node = node; above = new.above }) p.entered n);
       }
 
-  pub placed_pass : (old new : Stage) (node : ℕ) → Placed old → Moves bytes old new (Pass node) → Placed new
+  pub placed_pass : (old new : Stage) (node : ℕ) → Placed old → MovesOn bytes old new (Pass node) → Placed new
   placed_pass old new node p moves =
       let parts = all_split (λ e. IsNodeAt bytes tag room e.node) new.entered.items (record { node = node; above = new.above }) (subst (AllByRecursion (λ e. IsNodeAt bytes tag room e.node)) moves.0 p.entered) in
       record {
@@ -57,5 +57,5 @@ module _ (bytes : List ℕ) (table : Table) (known : Known) (ready : IsReady byt
       }
 
   -- the pointer of the node that the walk enters
-  pub placed_link : (old new : Stage) (pointer : ℕ) → Placed old → Moves bytes old new (Enter pointer) → IsLinkAt bytes tag room cell pointer
+  pub placed_link : (old new : Stage) (pointer : ℕ) → Placed old → MovesOn bytes old new (Enter pointer) → IsLinkAt bytes tag room cell pointer
   placed_link old new pointer p moves = subst (IsLinkAt bytes tag room cell) (sym moves.0) p.pointer

@@ -11,7 +11,7 @@ use Rattle.seg_spec.proofs.TreeSearchLaws.{many_nodes}
 use Rattle.seg_check.specs.declared.walk.Stage.{Stage}
 use Rattle.seg_check.specs.declared.walk.Visit.{Visit}
 use Rattle.seg_check.specs.declared.walk.Visit.TheVariants.{Enter, Pass}
-use Rattle.seg_check.specs.Walks.{Completes, Hangs, IsSteady, Proceeds, entering_of, Moves}
+use Rattle.seg_check.specs.Walks.{Completes, Hangs, IsSteady, Proceeds, entering_of, MovesOn}
 use Rattle.seg_check.proofs.SameLengthLaws.{same_length}
 
 -- each node is entered once
@@ -128,8 +128,8 @@ module _ (bytes : List ℕ) (root wanted : ℕ) where
             absurd (omega arith)
 
 -- where the walk goes over the same bytes
-pub moves_on : {E : Type 0} (bytes was : List ℕ) (old new : Stage) (r : Result (Option Visit) E) (visit : Visit) → r ≡ Ok (Some visit) → was ≡ bytes → IfOk r (λ v. IfSome v (Moves was old new)) → Moves bytes old new visit
-moves_on bytes was old new r visit is here moves = subst (λ bs. Moves bs old new visit) here (subst (λ x. IfOk x (λ v. IfSome v (Moves was old new))) is moves)
+pub moves_on : {E : Type 0} (bytes was : List ℕ) (old new : Stage) (r : Result (Option Visit) E) (visit : Visit) → r ≡ Ok (Some visit) → was ≡ bytes → IfOk r (λ v. IfSome v (MovesOn was old new)) → MovesOn bytes old new visit
+moves_on bytes was old new r visit is here moves = subst (λ bs. MovesOn bs old new visit) here (subst (λ x. IfOk x (λ v. IfSome v (MovesOn was old new))) is moves)
 
 -- the step of a walk over the same bytes
 pub steps_on : {E : Type 0} (bytes was now : List ℕ) (old new : Stage) (turns less : ℕ) (r : Result (Option Visit) E) (visit : Visit) → r ≡ Ok (Some visit) → now ≡ was → was ≡ bytes

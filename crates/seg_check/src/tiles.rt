@@ -7,7 +7,7 @@ ghost use Rattle.seg_spec.specs.Header.{sharing_version};
 ghost use Rattle.seg_spec.specs.Faulty.{HasFront, HasTiles};
 ghost use Rattle.seg_block.specs.Tags.{kind_of};
 ghost use Rattle.seg_check.specs.Marks.{nothing_known, KnowsTiles};
-ghost use Rattle.seg_check.specs.Tiles.{AreLiveTags, Follows, KnowsGaps};
+ghost use Rattle.seg_check.specs.Tiles.{AreLiveTags, FollowsHeader, KnowsGaps};
 
 use crate::claims::Claims;
 use crate::free_list::FreeList;
@@ -106,7 +106,7 @@ impl LiveTags {
     /// Whether a header may follow another one, apart from its size.
     fn follows(&self, header: Header, before: Header) -> bool
         ensures { (version : ℕ) (table : Table) → AreLiveTags version table self.now.are_right
-            → IsTrue result ↔ Follows version table before header }
+            → IsTrue result ↔ FollowsHeader version table before header }
     {
         header.units_before == before.units
             && if header.is_live {

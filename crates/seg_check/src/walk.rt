@@ -239,7 +239,7 @@ pub(crate) struct Walk<'a> {
 
 impl Walk<'_> {
     ghost use Rattle.std.specs.Prelude.{ℕ, ◌+◌, List, length, IfErr, IfOk, IfSome};
-    ghost use Rattle.seg_check.specs.Walks.{Completes, IsSteady, Proceeds, Moves};
+    ghost use Rattle.seg_check.specs.Walks.{Completes, IsSteady, Proceeds, MovesOn};
 
     /// The next step of the walk, or `None` at its end.
     // Inlined with the two functions that make a step, since a check of trees consists mostly of steps.
@@ -258,7 +258,7 @@ impl Walk<'_> {
         ensures bytes { self.new.bytes.bytes.now ≡ self.old.bytes.bytes.now }
         ensures root { self.new.root ≡ self.old.root }
         ensures moves { IfOk result (λ visit. IfSome visit
-            (Moves self.old.bytes.bytes.now self.old.stage self.new.stage)) }
+            (MovesOn self.old.bytes.bytes.now self.old.stage self.new.stage)) }
         ensures position { IfErr result (λ at. at ≡ self.old.root) }
     {
         if self.turns == 0 {

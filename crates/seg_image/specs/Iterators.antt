@@ -104,7 +104,7 @@ pub record KeysNext {S : Type 0} (allocator : S → ℕ) (stored : S → Stored)
       (result ≡ slice_get keys n) × MatchOption result ⊤ (λ key. HasKeyed keys new (suc n)))
 
 -- the value of a key of a map, at a place
-pub record IsEntry (segment : Stored) (map : Place) (U : ℕ) (keys : List ℤ) (key : ℤ)
+pub record IsMapEntry (segment : Stored) (map : Place) (U : ℕ) (keys : List ℤ) (key : ℤ)
     (value : Place) : Type 0 where
   pub of_type : IsMapOf (form_at segment.types map.type_id) value.type_id
   pub finds : FindsValue segment.window.bytes segment.types (place_of map) U keys key
@@ -118,5 +118,5 @@ pub record EntriesNext {S : Type 0} (allocator : S → ℕ) (stored : S → Stor
       (λ U keys vs blocks. (n : ℕ) → HasKeyed keys old.0 n →
       (option_map (λ entry. entry.0) result ≡ slice_get keys n) ×
       MatchOption result ⊤
-      (λ entry. IsEntry (stored old.0.image.now) old.0.map U keys entry.0 entry.1
+      (λ entry. IsMapEntry (stored old.0.image.now) old.0.map U keys entry.0 entry.1
       × HasKeyed keys new.0 (suc n)))

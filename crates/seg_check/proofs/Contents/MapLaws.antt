@@ -31,7 +31,7 @@ use Rattle.seg_check.specs.Positions.{IsLinkAt, LacksValueAt, in_cell, LacksAt}
 use Rattle.seg_check.proofs.Blocks.LackingBlockLaws.{null_lacks, refuses_as, link_lacks}
 use Rattle.seg_check.specs.Marks.{Known, Within}
 use Rattle.seg_check.specs.Keys.{HasKeys}
-use Rattle.seg_check.specs.Walks.{Completes, Hangs, IsSteady, Proceeds, Moves, entering_of}
+use Rattle.seg_check.specs.Walks.{Completes, Hangs, IsSteady, Proceeds, MovesOn, entering_of}
 use Rattle.seg_check.proofs.PlacedWalkLaws.{Placed, placed_start, placed_enter, placed_pass}
 use Rattle.seg_check.specs.Turns.{LiesAt, by_cell, Limited, limited}
 use Rattle.seg_check.specs.Resolving.{ResolvesBy, CanResolve, Advances, IsReady, Steps}
@@ -133,7 +133,7 @@ module _ (bytes : List ℕ) (table : Table) (old : Known) (ready : IsReady bytes
     traced_live = claimed_live bytes table old ready T map_words U mid t.entered t.claimed
 
     module _ (next : Stage) (less : ℕ) (steady : IsSteady bytes next less) (spent : less + 1 ≡ turns) where
-      pub traced_enter : (new : Known) (pointer p : ℕ) → Proceeds bytes stage next (Some (Enter pointer)) → Moves bytes stage next (Enter pointer) → ClaimsBlock bytes mid new pointer tag (1 * each) (turns_where has p 1) p → Traced new next less keys
+      pub traced_enter : (new : Known) (pointer p : ℕ) → Proceeds bytes stage next (Some (Enter pointer)) → MovesOn bytes stage next (Enter pointer) → ClaimsBlock bytes mid new pointer tag (1 * each) (turns_where has p 1) p → Traced new next less keys
       traced_enter new pointer p step moves c =
           let same : step.0 ≡ p = (let named : Some step.0 ≡ Some p = sym step.1 ∙ c.names in cc) in
           record {
@@ -149,7 +149,7 @@ module _ (bytes : List ℕ) (table : Table) (old : Known) (ready : IsReady bytes
             keys_are = t.keys_are;
           }
 
-      pub traced_pass : (node : ℕ) (more : Keys) → Proceeds bytes stage next (Some (Pass node)) → Moves bytes stage next (Pass node)
+      pub traced_pass : (node : ℕ) (more : Keys) → Proceeds bytes stage next (Some (Pass node)) → MovesOn bytes stage next (Pass node)
           → (node + map_words < 2 ^ 32 → HasKeys keys (keys_of t.passed) → HasKeys more (keys_of t.passed ++ signed_long bytes (node + tree_words) ∷ [])) → Traced mid next less more
       traced_pass node more step moves has_keys = record {
         placed = placed_pass bytes table old ready tag each at stage next node t.placed moves;

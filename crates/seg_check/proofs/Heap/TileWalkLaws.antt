@@ -13,7 +13,7 @@ use Rattle.seg_spec.proofs.Heap.TileLaws.{Fill-le, free_of-append, gaps_between-
 use Rattle.seg_block.specs.declared.header.Header.{Header}
 use Rattle.seg_block.specs.Headers.{header_at}
 use Rattle.seg_check.specs.declared.free_list.FreeList.{FreeList}
-use Rattle.seg_check.specs.Tiles.{Follows, KnowsGaps}
+use Rattle.seg_check.specs.Tiles.{FollowsHeader, KnowsGaps}
 
 true_false : true ≡ false → ⊥
 true_false e = cc
@@ -103,7 +103,7 @@ module _ (bytes : List ℕ) (table : Table) where
   abbrev OfVersion : ℕ → Type 0
   OfVersion at = IsTagOf (word bytes version_word) (tag_at bytes at)
 
-  rest_next : (ts : List Tile) (at : ℕ) (before : Header) → Rest (tile_at at ∷ ts) at before → Follows (word bytes version_word) table before (header_at bytes at)
+  rest_next : (ts : List Tile) (at : ℕ) (before : Header) → Rest (tile_at at ∷ ts) at before → FollowsHeader (word bytes version_word) table before (header_at bytes at)
   rest_next ts at before r = record {
     before_is = r.headers.0.before_is;
     free = λ e. (r.headers.0.tag_is e, before_free before.is_live (is_live_at bytes at) r.apart.0 e);
@@ -122,7 +122,7 @@ module _ (bytes : List ℕ) (table : Table) where
     of_version = (own_first OfVersion at ts (is_live_at bytes at) refl r.of_version).1;
   }
 
-  rest_more : (ts : List Tile) (at : ℕ) (before : Header) → 2 ≤ units_at bytes at → Follows (word bytes version_word) table before (header_at bytes at) → Rest ts (end_at at) (header_at bytes at) → Rest (tile_at at ∷ ts) at before
+  rest_more : (ts : List Tile) (at : ℕ) (before : Header) → 2 ≤ units_at bytes at → FollowsHeader (word bytes version_word) table before (header_at bytes at) → Rest ts (end_at at) (header_at bytes at) → Rest (tile_at at ∷ ts) at before
   rest_more ts at before large next r = record {
     fill = (refl, large, r.fill);
     headers = (record { units_is = refl; live_is = refl; before_is = next.before_is; tag_is = λ e. (next.free e).0 }, r.headers);
@@ -138,7 +138,7 @@ module _ (bytes : List ℕ) (table : Table) where
     first : (m : ℕ) × (w.n ≡ suc m) × (tiles_from w.n bytes at ≡ tile_at at ∷ tiles_from m bytes (end_at at))
     first = one_tile w.n at inside w.enough
 
-    pub next_is : HasTiles bytes table → Follows (word bytes version_word) table before (header_at bytes at)
+    pub next_is : HasTiles bytes table → FollowsHeader (word bytes version_word) table before (header_at bytes at)
     next_is a = rest_next (tiles_from first.0 bytes (end_at at)) at before (subst (λ ts. Rest ts at before) first.2 (w.forth a))
 
     pub fits_is : HasTiles bytes table → (2 ≤ units_at bytes at) × (end_at at ≤ length bytes)
@@ -150,7 +150,7 @@ module _ (bytes : List ℕ) (table : Table) where
     below_more [] to l b = (l, tt)
     below_more (t ∷ ts) to l b = (omega (arith, b.0), below_more ts to l b.1)
 
-    pub tiled_more : 2 ≤ units_at bytes at → Follows (word bytes version_word) table before (header_at bytes at) → IsTiledTo (passed ++ tile_at at ∷ []) (end_at at) (header_at bytes at)
+    pub tiled_more : 2 ≤ units_at bytes at → FollowsHeader (word bytes version_word) table before (header_at bytes at) → IsTiledTo (passed ++ tile_at at ∷ []) (end_at at) (header_at bytes at)
     tiled_more large next =
         let ts = tiles_from first.0 bytes (end_at at) in
         let enough = w.enough in
@@ -211,7 +211,7 @@ module _ (bytes : List ℕ) (table : Table) where
   free_more passed at old new true e same added followed = subst (λ gs. KnowsGaps bytes new gs) (sym (append-nil (free_of passed))) (subst (λ list. KnowsGaps bytes list (free_of passed)) (sym (same refl)) followed)
   free_more passed at old new false e same added followed = added refl followed
 
-  pub walked_more : (at : ℕ) (before : Header) (old new : FreeList) (w : Walked at before old) → at < length bytes → 2 ≤ units_at bytes at → end_at at ≤ length bytes → Follows (word bytes version_word) table before (header_at bytes at)
+  pub walked_more : (at : ℕ) (before : Header) (old new : FreeList) (w : Walked at before old) → at < length bytes → 2 ≤ units_at bytes at → end_at at ≤ length bytes → FollowsHeader (word bytes version_word) table before (header_at bytes at)
       → (is_live_at bytes at ≡ true → new ≡ old)
       → (is_live_at bytes at ≡ false → (gs : List Span) → KnowsGaps bytes old gs → KnowsGaps bytes new (gs ++ span_of (tile_at at) ∷ []))
       → (more : Walked (end_at at) (header_at bytes at) new) × (more.passed ≡ w.passed ++ tile_at at ∷ [])

@@ -25,7 +25,7 @@ use Rattle.seg_cells.specs.declared.content.Content.{Content}
 use Rattle.seg_cells.specs.declared.entry.Held.TheVariants as held
 use Rattle.seg_check.specs.Marks.{Known, ClaimsAll, Within}
 use Rattle.seg_check.specs.Resolving.{IsReady}
-use Rattle.seg_check.specs.Walks.{Completes, Hangs, IsSteady, Proceeds, Moves, entering_of}
+use Rattle.seg_check.specs.Walks.{Completes, Hangs, IsSteady, Proceeds, MovesOn, entering_of}
 use Rattle.seg_check.proofs.PlacedWalkLaws.{Placed, placed_start, placed_enter, placed_pass}
 use Rattle.seg_check.specs.declared.walk.Stage.{Stage}
 use Rattle.seg_check.specs.declared.walk.Visit.TheVariants.{Enter, Pass}
@@ -111,7 +111,7 @@ module _ (bytes : List ℕ) (table : Table) (old : Known) (ready : IsReady bytes
     traced_live h some = (ready.blocks h (omega (arith, traced_within h))).0
 
     module _ (next : Stage) (less : ℕ) (steady : IsSteady bytes next less) (spent : less + 1 ≡ turns) where
-      pub traced_enter : (new : Known) (pointer p : ℕ) → Proceeds bytes stage next (Some (Enter pointer)) → Moves bytes stage next (Enter pointer) → ClaimsBlock bytes mid new pointer (tag_of Kind.index_node 0) 24 [] p → Traced new next less
+      pub traced_enter : (new : Known) (pointer p : ℕ) → Proceeds bytes stage next (Some (Enter pointer)) → MovesOn bytes stage next (Enter pointer) → ClaimsBlock bytes mid new pointer (tag_of Kind.index_node 0) 24 [] p → Traced new next less
       traced_enter new pointer p step moves c =
           let both : Some p ≡ Some step.0 = sym c.names ∙ step.1 in
           let same : p ≡ step.0 = cc in
@@ -128,7 +128,7 @@ module _ (bytes : List ℕ) (table : Table) (old : Known) (ready : IsReady bytes
                 (claims_both old mid new (map block_of t.entered) (block_of step.0 ∷ []) [] [] t.claims (subst (λ q. ClaimsAll mid new (block_of q ∷ []) []) same c.claims));
           }
 
-      pub traced_pass : (node : ℕ) → Proceeds bytes stage next (Some (Pass node)) → Moves bytes stage next (Pass node) → Traced mid next less
+      pub traced_pass : (node : ℕ) → Proceeds bytes stage next (Some (Pass node)) → MovesOn bytes stage next (Pass node) → Traced mid next less
       traced_pass node step moves = record {
         placed = placed_pass bytes table old ready (tag_of Kind.index_node 0) 24 index_cell stage next node t.placed moves;
         passed = t.passed ++ node ∷ [];

@@ -1,9 +1,9 @@
 use Rattle.std.proofs.Common.{[], ◌∷◌, List, ℕ, sym, subst}
 use Rattle.std.proofs.lemmas.Result.{IfErr-weaker}
 use Rattle.std.specs.Prelude.{OnOk}
-use Rattle.cli_host.specs.Accesses.{Adds, access}
+use Rattle.cli_host.specs.Accesses.{AddsAccesses, access}
 use Rattle.cli_program.specs.Failures.{IsUnsaved}
-use Rattle.cli_program.specs.Runs.{WasRead, HasRun, HasFailed, read_of}
+use Rattle.cli_program.specs.Runs.{WasRead, HasRunFiles, HasFailed, read_of}
 use Rattle.cli_program.proofs.RunsLaws.{failed_save, saved_by}
 use Rattle.cli_program.proofs.run.run_files.Goals as goal
 
@@ -18,14 +18,14 @@ returns-clause-saved g c =
     let writes_then = g.F.Files.was_written c.save.new.files in
     let taken = g.O.Sink.taken c.args.out.now in
     let taken_then = g.O.Sink.taken c.outcome_of.new.out in
-    let ran : HasRun run reads reads_then taken taken_then o.image.items o.ended = record {
+    let ran : HasRunFiles run reads reads_then taken taken_then o.image.items o.ended = record {
       it = it;
       was_read = subst (λ r. WasRead run reads r it) (sym c.save.ensures.nothing_read) c.in_ok-inputs.ensures.read;
       reports = o.reports.items;
       outcome = c.in_ok-outcome.ensures.outcome;
     } in
-    let written = subst (λ w. OnOk c.save.result (Adds w writes_then (access run.out.now o.image.items ∷ []))) c.in_ok-inputs.ensures.nothing_written
-    (subst (λ (i : List ℕ). OnOk c.save.result (Adds (g.F.Files.was_written c.read_inputs.new.files) writes_then (access run.out.now i ∷ []))) c.as_slice.ensures.value c.save.ensures.saved) in
+    let written = subst (λ w. OnOk c.save.result (AddsAccesses w writes_then (access run.out.now o.image.items ∷ []))) c.in_ok-inputs.ensures.nothing_written
+    (subst (λ (i : List ℕ). OnOk c.save.result (AddsAccesses (g.F.Files.was_written c.read_inputs.new.files) writes_then (access run.out.now i ∷ []))) c.as_slice.ensures.value c.save.ensures.saved) in
     saved_by run reads reads_then writes writes_then taken taken_then c.save.result o.image.items o.ended ran c.save.ensures.done written
 
 pub returns-clause-failed : goal.returns-clause-failed
@@ -40,7 +40,7 @@ returns-clause-failed g c =
     let writes_then = g.F.Files.was_written c.save.new.files in
     let taken = g.O.Sink.taken c.args.out.now in
     let taken_then = g.O.Sink.taken c.outcome_of.new.out in
-    let ran : HasRun run reads reads_then taken taken_then o.image.items o.ended = record {
+    let ran : HasRunFiles run reads reads_then taken taken_then o.image.items o.ended = record {
       it = it;
       was_read = subst (λ r. WasRead run reads r it) (sym c.save.ensures.nothing_read) c.in_ok-inputs.ensures.read;
       reports = o.reports.items;

@@ -1,7 +1,7 @@
 use Rattle.std.proofs.Common.{◌≡◌, sym, refl, arith, ap, subst, ℕ}
 use Rattle.lezgauri.specs.Place.{Place}
 use Rattle.lezgauri.specs.Images.{bytes_in}
-use Rattle.lezgauri_c.specs.Changes.{IsOver}
+use Rattle.lezgauri_c.specs.Changes.{IsAnswered}
 use Rattle.lezgauri_c.specs.ImageChanges.{DestroysAnonymous}
 use Rattle.lezgauri_c.proofs.ChangeLaws.{calls, same_memory, same_types, opened_now}
 use Rattle.lezgauri_c.proofs.changing_anonymous.lezgauri_raw_destroy_anonymous.Goals as goal
@@ -13,7 +13,7 @@ returns-clause-destroys c =
     let left = c.destroy_anonymous-returned.new.self in
     let left_is : bytes_in left ≡ c.close_image.new.lent.bytes = sym c.close_image.ensures.bytes in
     let at : c.place_at-object.result.at ≡ c.args.at = ap (λ (p : Place). p.at) c.place_at-object.ensures in
-    subst (λ (n : ℕ). IsOver c.args.image.now.bytes c.close_image.new.lent.bytes c.args.types.now 0 (DestroysAnonymous n)) at
+    subst (λ (n : ℕ). IsAnswered c.args.image.now.bytes c.close_image.new.lent.bytes c.args.types.now 0 (DestroysAnonymous n)) at
     (calls c.args.types.now opened left on.bytes left_is on.opened tt (λ some. absurd (omega (arith, some))) refl (record {
       bytes = c.destroy_anonymous-returned.ensures.bytes;
       loses = c.destroy_anonymous-returned.ensures.loses;

@@ -1,7 +1,7 @@
 use Rattle.std.proofs.Common.{◌≡◌, sym, ◌∙◌, subst, ℕ}
 use Rattle.lezgauri.specs.Images.{bytes_in}
 use Rattle.lezgauri_c.specs.Changes.{IsFound}
-use Rattle.lezgauri_c.specs.ImageChanges.{Destroys}
+use Rattle.lezgauri_c.specs.ImageChanges.{DestroysNamed}
 use Rattle.lezgauri_c.proofs.ChangeLaws.{calls, still_sound, same_memory, same_types, opened_now}
 use Rattle.lezgauri_c.proofs.NamedChangeLaws.{destroy_sound, destroy_kept}
 use Rattle.lezgauri_c.proofs.changing_names.lezgauri_raw_destroy.Goals as goal
@@ -12,7 +12,7 @@ returns-clause-destroys c =
     let on = opened_now c.deref_mut.ensures.value c.in-Ok.ensures.opened in
     let left = c.destroy-returned.new.self in
     let left_is : bytes_in left ≡ c.close_image.new.lent.bytes = sym c.close_image.ensures.bytes in
-    subst (λ (T : ℕ). IsFound c.args.image.now.bytes c.close_image.new.lent.bytes c.args.types.now c.found.result (Destroys c.args.name.now T)) c.type_number-t.ensures
+    subst (λ (T : ℕ). IsFound c.args.image.now.bytes c.close_image.new.lent.bytes c.args.types.now c.found.result (DestroysNamed c.args.name.now T)) c.type_number-t.ensures
     (calls c.args.types.now opened left on.bytes left_is on.opened c.destroy-returned.result c.found.ensures.number c.found.ensures.told (record {
       bytes = c.destroy-returned.ensures.bytes;
       tells = c.destroy-returned.ensures.tells;
@@ -26,7 +26,7 @@ returns-clause-sound c =
     let on = opened_now c.deref_mut.ensures.value c.in-Ok.ensures.opened in
     let left = c.destroy-returned.new.self in
     let left_is : bytes_in left ≡ c.close_image.new.lent.bytes = sym c.close_image.ensures.bytes in
-    let it : Destroys c.args.name.now c.type_number-t.result opened left c.destroy-returned.result = record {
+    let it : DestroysNamed c.args.name.now c.type_number-t.result opened left c.destroy-returned.result = record {
       bytes = c.destroy-returned.ensures.bytes;
       tells = c.destroy-returned.ensures.tells;
       loses = c.destroy-returned.ensures.loses;
@@ -41,7 +41,7 @@ returns-clause-kept c some =
     let on = opened_now c.deref_mut.ensures.value c.in-Ok.ensures.opened in
     let left = c.destroy-returned.new.self in
     let left_is : bytes_in left ≡ c.close_image.new.lent.bytes = sym c.close_image.ensures.bytes in
-    let it : Destroys c.args.name.now c.type_number-t.result opened left c.destroy-returned.result = record {
+    let it : DestroysNamed c.args.name.now c.type_number-t.result opened left c.destroy-returned.result = record {
       bytes = c.destroy-returned.ensures.bytes;
       tells = c.destroy-returned.ensures.tells;
       loses = c.destroy-returned.ensures.loses;

@@ -2,7 +2,7 @@ use Rattle.std.proofs.Common.{◌≡◌, sym, subst}
 use Rattle.lezgauri.specs.Place.{Place}
 use Rattle.lezgauri.specs.Images.{bytes_in}
 use Rattle.lezgauri_c.specs.Changes.{IsDone, place_at}
-use Rattle.lezgauri_c.specs.ImageChanges.{Freezes}
+use Rattle.lezgauri_c.specs.ImageChanges.{FreezesInto}
 use Rattle.lezgauri_c.proofs.ChangeLaws.{calls, same_memory, same_types, opened_now}
 use Rattle.lezgauri_c.proofs.changing_owners.lezgauri_raw_freeze.Goals as goal
 
@@ -12,8 +12,8 @@ returns-clause-freezes c =
     let on = opened_now c.deref_mut.ensures.value c.in-Ok.ensures.opened in
     let left = c.freeze-returned.new.self in
     let left_is : bytes_in left ≡ c.close_image.new.lent.bytes = sym c.close_image.ensures.bytes in
-    subst (λ (p : Place). IsDone c.args.image.now.bytes c.close_image.new.lent.bytes c.args.types.now c.done.result (Freezes p (place_at c.args.to_at c.args.to_type_id))) c.place_at-owner.ensures
-    (subst (λ (q : Place). IsDone c.args.image.now.bytes c.close_image.new.lent.bytes c.args.types.now c.done.result (Freezes c.place_at-owner.result q)) c.place_at-shared.ensures
+    subst (λ (p : Place). IsDone c.args.image.now.bytes c.close_image.new.lent.bytes c.args.types.now c.done.result (FreezesInto p (place_at c.args.to_at c.args.to_type_id))) c.place_at-owner.ensures
+    (subst (λ (q : Place). IsDone c.args.image.now.bytes c.close_image.new.lent.bytes c.args.types.now c.done.result (FreezesInto c.place_at-owner.result q)) c.place_at-shared.ensures
     (calls c.args.types.now opened left on.bytes left_is on.opened c.freeze-returned.result c.done.ensures.number c.done.ensures.told (record {
       bytes = c.freeze-returned.ensures.bytes;
       other = c.freeze-returned.ensures.other;

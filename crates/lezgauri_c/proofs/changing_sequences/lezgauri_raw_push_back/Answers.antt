@@ -2,7 +2,7 @@ use Rattle.std.proofs.Common.{◌≡◌, sym, subst}
 use Rattle.lezgauri.specs.Place.{Place}
 use Rattle.lezgauri.specs.Images.{bytes_in}
 use Rattle.lezgauri_c.specs.Changes.{place_at, GivesPlace}
-use Rattle.lezgauri_c.specs.ImageChanges.{PushesItem}
+use Rattle.lezgauri_c.specs.ImageChanges.{PushesItemBack}
 use Rattle.lezgauri_c.proofs.ChangeLaws.{calls, same_memory, same_types, opened_now}
 use Rattle.lezgauri_c.proofs.PlaceChangeLaws.{stays_sound, push_back_stays}
 use Rattle.lezgauri_c.proofs.changing_sequences.lezgauri_raw_push_back.Goals as goal
@@ -13,7 +13,7 @@ returns-clause-pushes c =
     let on = opened_now c.deref_mut.ensures.value c.in-Ok.ensures.opened in
     let left = c.push_back-returned.new.self in
     let left_is : bytes_in left ≡ c.close_image.new.lent.bytes = sym c.close_image.ensures.bytes in
-    subst (λ (p : Place). GivesPlace c.args.image.now.bytes c.close_image.new.lent.bytes c.args.types.now c.give.result c.args.item.now c.give.new.place (PushesItem p)) c.place_at-sequence.ensures
+    subst (λ (p : Place). GivesPlace c.args.image.now.bytes c.close_image.new.lent.bytes c.args.types.now c.give.result c.args.item.now c.give.new.place (PushesItemBack p)) c.place_at-sequence.ensures
     (calls c.args.types.now opened left on.bytes left_is on.opened c.push_back-returned.result c.give.ensures.number c.give.ensures.told (record {
       bytes = c.push_back-returned.ensures.bytes;
       of_type = c.push_back-returned.ensures.of_type;

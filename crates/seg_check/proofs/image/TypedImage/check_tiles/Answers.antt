@@ -5,7 +5,7 @@ use Rattle.seg_spec.specs.Heap.{Span, span_of, units_at, is_live_at, heap_start}
 use Rattle.seg_block.specs.declared.header.Header.{Header}
 use Rattle.seg_block.specs.Headers.{header_at}
 use Rattle.seg_check.specs.declared.free_list.FreeList.{FreeList}
-use Rattle.seg_check.specs.Tiles.{Follows, KnowsGaps}
+use Rattle.seg_check.specs.Tiles.{FollowsHeader, KnowsGaps}
 use Rattle.seg_check.specs.Marks.{IsUnit, AddsBlock}
 use Rattle.seg_check.proofs.Heap.PassedTileLaws.{KnowsPassed, knows_none, knows_more, knows_all, no_live, no_free, no_block}
 use Rattle.seg_check.proofs.Heap.TileWalkLaws.{Walked, walked_none, walked_more, walked_all, next_is, fits_is, tile_at, end_at}
@@ -60,8 +60,8 @@ loop-at-preserved g c = λ front.
     let large : 2 ≤ units_at bytes at = omega (arith, units, c.if-units-lt2.false) in
     let ends : end_at bytes table at ≤ length bytes = omega (arith, units, c.if-units-end.false, len, inside) in
     let tags = c.of-tags.ensures (word bytes version_word) c.shares.ensures front.is_table in
-    let next : Follows (word bytes version_word) table before (header_at bytes at) =
-    subst (λ (h : Header). Follows (word bytes version_word) table before h) is ((c.follows.ensures (word bytes version_word) table tags).0 c.if-not-follows.false) in
+    let next : FollowsHeader (word bytes version_word) table before (header_at bytes at) =
+    subst (λ (h : Header). FollowsHeader (word bytes version_word) table before h) is ((c.follows.ensures (word bytes version_word) table tags).0 c.if-not-follows.false) in
     let near : at + 16 < 2 ^ 32 = small (length bytes) at fits front.header.not_large in
     let list = c.if-not-header.free_list in
     let gap : Span = span_of (tile_at bytes table at) in
@@ -108,7 +108,7 @@ returns-then-units-lt2-clause-tiles g c = λ front.
             | then-units-lt2-via-then-units-lt2 v ↦ absurd (omega (arith, v.if-units-lt2.true, sized.0, units))
             | then-units-lt2-via-else-units-lt2+then-units-end v ↦ absurd (omega (arith, v.if-units-end.true, sized.1, units, len))
             | then-units-lt2-via-else-units-lt2+else-units-end+then-not-follows v ↦
-                false_true _ (sym v.if-not-follows.true ∙ (v.follows.ensures (word bytes version_word) table tags).1 (subst (λ (h : Header). Follows (word bytes version_word) table before h) (sym is) next))
+                false_true _ (sym v.if-not-follows.true ∙ (v.follows.ensures (word bytes version_word) table tags).1 (subst (λ (h : Header). FollowsHeader (word bytes version_word) table before h) (sym is) next))
           ],
     )
 
