@@ -74,6 +74,7 @@ pub mod ShrinkStepLaws
 pub mod BareValueLaws
 pub mod AddedValueLaws
 pub mod NewPartLaws
+pub mod ContainerValueLaws
 pub mod GrownBlockLaws
 pub mod AddingStepLaws
 pub mod AnsweredRowLaws
