@@ -49,8 +49,6 @@ pub mod DefaultCellLaws
 pub mod ClearStepLaws
 pub mod RaisedCountLaws
 pub mod ShareStepLaws
-pub mod PopFrontLaws
-pub mod PopFrontStepLaws
 pub mod FrozenContentLaws
 pub mod EndedImageLaws
 pub mod AlikeEndLaws
@@ -77,6 +75,10 @@ pub mod NewPartLaws
 pub mod ContainerValueLaws
 pub mod GrownBlockLaws
 pub mod AddingStepLaws
+pub mod RemovedValueLaws
+pub mod RemovedPartLaws
+pub mod ReleasedPartLaws
+pub mod RemovingStepLaws
 pub mod AnsweredRowLaws
 pub mod OwnerRegisterLaws
 pub mod GrownImageLaws
