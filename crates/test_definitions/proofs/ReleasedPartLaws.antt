@@ -49,8 +49,7 @@ live_after {bytes = bytes} p new e within h =
     (omega (arith, counted, each h, ap (λ bs. times h (positions bs)) e.left), shared h)
 
 module _ {constants : List Constant} {others : List Root} {i : Instruction} {places bytes new : List ℕ} {answer : Answer} {t : State} {after : Pictures others t new} {s : State} (k : Side constants others i places bytes new answer after s)
-    (found : RefersTo s i.b) (place : Place) (form : Form) (its : List ℕ) (touched : Touched constants i true k.before new place form its) (goes : Releases k.before new) (own_within : (h : ℕ) → times h goes.own ≤ times h its)
-    (cells_are : (v : Value) (news : List ℕ) → Holds new k.before.picture.table place v news → SameNames (names_in touched.value) (goes.gone ++ names_in v)) where
+    (found : RefersTo s i.b) (place : Place) (form : Form) (its : List ℕ) (touched : Touched constants i true k.before new place form its) (goes : Releases k.before new) (own_within : (h : ℕ) → times h goes.own ≤ times h its) where
   abbrev p : Pictures others s bytes
   p = k.before
 
@@ -66,28 +65,30 @@ module _ {constants : List Constant} {others : List Root} {i : Instruction} {pla
   its_among : (h : ℕ) → times h its ≤ times h (frozen_apart bytes p.picture p.held).owners
   its_among h = omega (arith, its_within p new path place l start.0 start.1 its touched.holds_it touched.kept h, its_owned p new path place l start.0 start.1 its touched.holds_it touched.kept h)
 
-  lives_then : (h : ℕ) → (times h (positions (live new)) + (times h goes.own + times h goes.shared) ≡ times h (positions (live bytes))) × (times h goes.shared ≤ times h (frozen_apart bytes p.picture p.held).frozen)
+  pub lives_then : (h : ℕ) → (times h (positions (live new)) + (times h goes.own + times h goes.shared) ≡ times h (positions (live bytes))) × (times h goes.shared ≤ times h (frozen_apart bytes p.picture p.held).frozen)
   lives_then h = live_after p new goes (λ g. omega (arith, own_within g, its_among g)) h
 
-  cells : CellsWithin p new place
-  cells v news h =
-      let B = IsBelow (word bytes next_word) p.picture.frozen in
-      let root = cells_of B (owners_in p.picture) l.root p.counted.counted.named (own_owner p new path place l start.0 start.1 its touched.holds_it touched.kept) in
-      let below = value_below p new path place l start.0 start.1 its touched.holds_it touched.kept (word bytes next_word) p.picture.frozen root in
-      each_right B goes.gone (names_in v) ((cells_are v news h).below (word bytes next_word) p.picture.frozen below)
-
-  lives : LiveBeside p new its
+  pub lives : LiveBeside p new its
   lives h some none none_frozen = omega (arith, some, none, none_frozen, own_within h, (lives_then h).0, (lives_then h).1)
 
-  pub releases_within : ReleasesWithin p after place its k.frozen
-  releases_within =
-      let b = beside k path place l start.0 start.1 its touched.holds_it touched.kept lives in
-      let now = value_there p new path place l start.0 start.1 its touched.holds_it touched.kept after b.objects k.same_owners in
-      record {
-        cells = cells;
-        lives = lives;
-        frozen_stays = released_stay p new path place l start.0 start.1 its touched.holds_it touched.kept after b k.same_owners p.picture.frozen (each_based p.picture.frozen) goes.gone now.now now.blocks now.holds_now
-            (counted_left p new path place l start.0 start.1 its touched.holds_it touched.kept goes.gone now.now (cells_are now.now now.blocks now.holds_now))
-            goes.freeing.theirs goes.freeing.holds (λ f i. at_times f p.picture.frozen i)
-            (λ h some. omega (arith, some, ap (times h) goes.freeing.blocks_are, (lives_then h).0, live-once bytes (word bytes allocator_word) p.held.laid_out.heap h));
-      }
+  -- the shared cells of the old value are those that went and those of the new value
+  module _ (cells_are : (v : Value) (news : List ℕ) → Holds new k.before.picture.table place v news → SameNames (names_in touched.value) (goes.gone ++ names_in v)) where
+    cells : CellsWithin p new place
+    cells v news h =
+        let B = IsBelow (word bytes next_word) p.picture.frozen in
+        let root = cells_of B (owners_in p.picture) l.root p.counted.counted.named (own_owner p new path place l start.0 start.1 its touched.holds_it touched.kept) in
+        let below = value_below p new path place l start.0 start.1 its touched.holds_it touched.kept (word bytes next_word) p.picture.frozen root in
+        each_right B goes.gone (names_in v) ((cells_are v news h).below (word bytes next_word) p.picture.frozen below)
+
+    pub releases_within : ReleasesWithin p after place its k.frozen
+    releases_within =
+        let b = beside k path place l start.0 start.1 its touched.holds_it touched.kept lives in
+        let now = value_there p new path place l start.0 start.1 its touched.holds_it touched.kept after b.objects k.same_owners in
+        record {
+          cells = cells;
+          lives = lives;
+          frozen_stays = released_stay p new path place l start.0 start.1 its touched.holds_it touched.kept after b k.same_owners p.picture.frozen (each_based p.picture.frozen) goes.gone now.now now.blocks now.holds_now
+              (counted_left p new path place l start.0 start.1 its touched.holds_it touched.kept goes.gone now.now (cells_are now.now now.blocks now.holds_now))
+              goes.freeing.theirs goes.freeing.holds (λ f i. at_times f p.picture.frozen i)
+              (λ h some. omega (arith, some, ap (times h) goes.freeing.blocks_are, (lives_then h).0, live-once bytes (word bytes allocator_word) p.held.laid_out.heap h));
+        }
