@@ -1,6 +1,5 @@
 -- Two situations that clients can't tell apart stay so after CLEAR.
 use Rattle.std.proofs.Common.{◌≡◌, ℕ, ◌+◌, ◌≤◌, inl, inr, true, false, List, [], ◌∷◌, ◌++◌, length, Some, refl, sym, ap, ◌∙◌, subst, arith}
-use Rattle.std.specs.List.{AllByRecursion}
 use Rattle.seg_spec.specs.Bytes.{word}
 use Rattle.seg_spec.specs.Header.{allocator_word, next_word}
 use Rattle.seg_spec.specs.Types.{Form, Table}
@@ -13,7 +12,7 @@ use Rattle.seg_spec.specs.Shared.{names_in, IsBelow, replaced}
 use Rattle.seg_spec.specs.Counting.{FrozenGone}
 use Rattle.seg_spec.specs.Demand.{after_asks, after_gives}
 use Rattle.seg_spec.specs.Spending as spending
-use Rattle.seg_spec.proofs.Heap.LiveBlockLaws.{times-append, live-once, times-same}
+use Rattle.seg_spec.proofs.Heap.LiveBlockLaws.{live-once, times-same}
 use Rattle.seg_spec.proofs.Values.OneValueLaws.{Holds-one}
 use Rattle.client_spec.specs.declared.table.Operation.{Operation}
 use Rattle.client_spec.specs.Syntax.{Constant, Instruction}
@@ -28,10 +27,6 @@ use Rattle.client_spec.proofs.Unfolded.PictureTreeLaws.{all_named}
 use Rattle.client_sim.proofs.Frozen.ReadOnlyLaws.{named_at}
 use Rattle.test_definitions.specs.Alike.{StandAlike, StaysAlike}
 use Rattle.test_definitions.proofs.BareValueLaws.{bare_alike}
-use Rattle.test_definitions.proofs.ChangedPlaceLaws.{its_within, its_owned, counted_left}
-use Rattle.test_definitions.proofs.EndedImageLaws.{frozen_by, gives_times, parted, at_times}
-use Rattle.test_definitions.proofs.FrozenApartLaws.{frozen_apart}
-use Rattle.test_definitions.proofs.FrozenReleasedLaws.{released_stay, each_based}
 use Rattle.test_definitions.proofs.KeptRowLaws.{one, unchanged_alike}
 use Rattle.test_definitions.proofs.OnePlaceLaws.{RefersTo, led_one}
 use Rattle.test_definitions.proofs.OneRow.{itself}
@@ -39,16 +34,16 @@ use Rattle.test_definitions.proofs.OwningRegisterLaws.{moves_owners, changes_nam
 use Rattle.test_definitions.proofs.PathOriginLaws.{at_place}
 use Rattle.test_definitions.proofs.PlaceRowLaws.{refers_to, cleared_there}
 use Rattle.test_definitions.proofs.PlaceStepLaws.{Touched}
-use Rattle.test_definitions.proofs.ChangedPlaceRowLaws.{CellsWithin, Beside}
+use Rattle.test_definitions.proofs.ChangedPlaceRowLaws.{Beside}
 use Rattle.test_definitions.proofs.ReleasedPartLaws.{Releases, lives_then, lives, releases_within}
-use Rattle.test_definitions.proofs.PlaceTwoStepLaws.{Side, LiveBeside, ReleasesWithin, PlaceSteps, mine, theirs, beside, place_step}
+use Rattle.test_definitions.proofs.PlaceTwoStepLaws.{Side, ReleasesWithin, PlaceSteps, mine, theirs, beside, place_step}
 use Rattle.test_definitions.proofs.PlaceValueLaws.{value_there, There}
 use Rattle.std.proofs.lemmas.List.{append-nil}
 use Rattle.seg_spec.proofs.Frozen.PartCountLaws.{names_same}
 use Rattle.client_spec.proofs.Unfolded.UnfoldedStateLaws.{value_same}
 use Rattle.client_spec.proofs.Unfolded.UnfoldedValueLaws.{nothing_replaced}
 use Rattle.test_definitions.proofs.DefaultCellLaws.{default_cells}
-use Rattle.test_definitions.proofs.OwnedBlockLaws.{FrozenStay, owned_open}
+use Rattle.test_definitions.proofs.OwnedBlockLaws.{owned_open}
 
 none_in : (xs : List ℕ) → ((h : ℕ) → 1 ≤ times h xs → ⊥) → xs ≡ []
 none_in [] f = refl

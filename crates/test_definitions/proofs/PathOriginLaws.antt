@@ -8,7 +8,7 @@ use Rattle.seg_spec.specs.Reads.{Place, Opened, Opens, Leads, here, into, places
 use Rattle.client_spec.specs.declared.table.Operation.{Operation}
 use Rattle.client_spec.specs.Syntax.{Constant}
 use Rattle.client_spec.specs.Machine.{◌>>=◌, Path, State, at_origin, path_value, path_type, put_at, part_type, type_along}
-use Rattle.client_spec.specs.Answer.{Answer, success, path_of, path_form, integer_at, text_in, items_in, list_item, int_in}
+use Rattle.client_spec.specs.Answer.{Answer, success, path_of, path_form, integer_at, text_in, items_in, int_in}
 use Rattle.client_spec.specs.Effect.{effect}
 use Rattle.client_spec.proofs.TypedStates.ValueLaws.{Some_inj, bind_some}
 use Rattle.client_spec.proofs.TypedStates.StateLaws.{origin_put_same}

@@ -15,7 +15,7 @@ use Rattle.client_spec.proofs.TypedStates.ShapeLaws.{IsOf, form_of_value}
 use Rattle.client_spec.specs.declared.table.Operation.{Operation}
 use Rattle.client_spec.specs.Syntax.{Constant, Instruction}
 use Rattle.client_spec.specs.Machine.{◌>>=◌, Origin, Path, Register, Object, State, register, owned_by, at_origin, path_type, type_along, path_value}
-use Rattle.client_spec.specs.Answer.{Answer, bad_alloc, path_in, path_of, path_form, text_in, items_in, list_item, int_in}
+use Rattle.client_spec.specs.Answer.{Answer, bad_alloc, path_in, path_of, path_form, text_in, items_in, int_in}
 use Rattle.client_spec.specs.Effect.{effect, outcome}
 use Rattle.client_spec.specs.Trees.{unfolded_register}
 use Rattle.client_spec.specs.Pictures.{object_of, root_of_register, Pictures, PicturesTrees, root_at, meaning_in}
