@@ -33,7 +33,7 @@ set_keeps s a x (Origin.Owned r) y free e = elim (register_set s a r x) [
 ]
 
 -- the value that was put is at the path, also after another register was set
-put_there : (s : State) (p : Path) (old new : Value) (a : ℕ) (x : Register) → path_value s p ≡ Some old → owned_by (register (put_at s p new) a) ≡ None → path_value (set_register (put_at s p new) a x) p ≡ Some new
+pub put_there : (s : State) (p : Path) (old new : Value) (a : ℕ) (x : Register) → path_value s p ≡ Some old → owned_by (register (put_at s p new) a) ≡ None → path_value (set_register (put_at s p new) a x) p ≡ Some new
 put_there s p old new a x e free =
     let root = bind_some (at_origin s p.origin) (λ root. value_at root.0 p.selectors) old e in
     let then_is = with_value_at p.selectors new root.0.0 in
@@ -42,7 +42,7 @@ put_there s p old new a x e free =
     ap (λ o. o >>= λ (r : Value × ℕ). value_at r.0 p.selectors) (set_keeps (put_at s p new) a x p.origin (then_is, root.0.1) free there) ∙ put_same p.selectors root.0.0 old new root.2
 
 -- an answer that is success
-answered : (code : Answer) (a : ℕ) (x : Register) (s y : State) → answer code a x s ≡ Some (success, y) → (code ≡ success) × (owned_by (register s a) ≡ None) × (set_register s a x ≡ y)
+pub answered : (code : Answer) (a : ℕ) (x : Register) (s y : State) → answer code a x s ≡ Some (success, y) → (code ≡ success) × (owned_by (register s a) ≡ None) × (set_register s a x ≡ y)
 answered code a x s y e = go (owned_by (register s a)) refl e
   where
     go : (o : Option (Value × ℕ)) → owned_by (register s a) ≡ o → option_map_or {U = Outcome} (λ _. None) o (Some (code, set_register s a x)) ≡ Some (success, y)
@@ -113,7 +113,7 @@ map_form (Form.flat_map U) t e = tt
 map_form (Form.map U) t e = tt
 map_form form t e = absurd (let f : None ≡ Some t = e in cc)
 
-items_value : (v : Value) (vs : Values) → items_in v ≡ Some vs → v ≡ Seq vs
+pub items_value : (v : Value) (vs : Values) → items_in v ≡ Some vs → v ≡ Seq vs
 items_value (Seq ws) vs e = ap Seq (Some_inj e)
 items_value v vs e = absurd (let f : None ≡ Some vs = e in cc)
 
@@ -135,7 +135,7 @@ nth_inserted vs zero w l = refl
 nth_inserted nil (suc i) w l = absurd (omega (arith, l))
 nth_inserted (cons v vs) (suc i) w l = nth_inserted vs i w (omega (arith, l))
 
-one_path : (X : State) (b : ℕ) (p q : Path) → path_of X b ≡ Some p → path_of X b ≡ Some q → q ≡ p
+pub one_path : (X : State) (b : ℕ) (p q : Path) → path_of X b ≡ Some p → path_of X b ≡ Some q → q ≡ p
 one_path X b p q e f = Some_inj (sym f ∙ e)
 
 module _ (constants : List Constant) (a b c : ℕ) (number : ℤ) (room : Bool) (X Y : State) (p : Path) (is : path_of X b ≡ Some p) where

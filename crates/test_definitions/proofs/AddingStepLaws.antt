@@ -1,19 +1,17 @@
 -- Two situations that clients can't tell apart stay so after PUSH, PUSHF and PUTK.
-use Rattle.std.proofs.Common.{◌≡◌, ℕ, zero, suc, ℤ, ◌≤◌, ◌⊎◌, inl, inr, true, false, List, [], ◌∷◌, ◌++◌, length, Option, Some, None, refl, sym, ap, ◌∙◌, subst, arith, length-append}
+use Rattle.std.proofs.Common.{◌≡◌, ℕ, ℤ, ◌≤◌, ◌⊎◌, inl, inr, true, false, List, [], ◌∷◌, ◌++◌, length, Option, Some, None, refl, sym, ap, ◌∙◌, subst, arith, length-append}
 use Rattle.std.specs.List.{AllByRecursion}
-use Rattle.seg_spec.specs.Frozen.{Frozen}
-use Rattle.seg_spec.specs.Items.{key_place, keys_below}
+use Rattle.seg_spec.specs.Items.{keys_below}
 use Rattle.seg_spec.specs.Bytes.{word}
 use Rattle.seg_spec.specs.Header.{allocator_word, next_word}
 use Rattle.seg_spec.specs.Types.{Form, Table, form_at}
-use Rattle.seg_spec.specs.Value.{Label, Value, Values, node, nil, cons, count, append}
+use Rattle.seg_spec.specs.Value.{Label, Value, Values, node, cons, count, append}
 use Rattle.seg_spec.specs.Heap.{live}
-use Rattle.seg_spec.specs.Reads.{Place, Opened, Opens, Holds, holds, count_at, named}
+use Rattle.seg_spec.specs.Reads.{Place, Opened, Opens, Holds, count_at, named}
 use Rattle.seg_spec.specs.Parts.{KeepsParts}
 use Rattle.seg_spec.specs.Index.{Root}
-use Rattle.seg_spec.specs.Roots.{HasFace}
 use Rattle.seg_spec.specs.Sound.{times, positions}
-use Rattle.seg_spec.specs.Shared.{names_in, IsBelow, replaced, replaced_each, value_at_position, owner_by, meaning}
+use Rattle.seg_spec.specs.Shared.{names_in, IsBelow, replaced, replaced_each}
 use Rattle.seg_spec.specs.Counting.{owners_in}
 use Rattle.seg_spec.proofs.Heap.LiveBlockLaws.{times-append, live-once}
 use Rattle.seg_spec.proofs.Values.OneValueLaws.{Holds-one}
@@ -25,17 +23,18 @@ use Rattle.client_spec.specs.Machine.{◌>>=◌, Path, State, path_value}
 use Rattle.client_spec.specs.Answer.{Answer, success, numbers_used_up, integer_at, path_of, entries_in}
 use Rattle.client_spec.specs.Pictures.{Pictures, meaning_in, trees_of}
 use Rattle.client_spec.specs.Asks.{LedTo, found_key, new_index, ChangesBlocks}
-use Rattle.client_spec.specs.Ties.{SameOrAt, OfPlace, TouchesBy, KeepsBy, keeps_image, places_of, spot_of}
+use Rattle.client_spec.specs.Ties.{SameOrAt, OfPlace, TouchesBy, KeepsBy, keeps_image, places_of}
 use Rattle.client_spec.specs.OnImages.{Move, Situation, RowWith, RowOn}
 use Rattle.client_spec.proofs.TypedStates.ValueLaws.{Some_inj, bind_some}
 use Rattle.client_spec.proofs.Unfolded.PictureTreeLaws.{all_named}
 use Rattle.client_spec.proofs.Unfolded.UnfoldedStateLaws.{integer_same, path_same, value_same}
 use Rattle.client_spec.proofs.Unfolded.UnfoldedValueLaws.{nothing_replaced, append_replaced, count_replaced}
 use Rattle.client_sim.proofs.Frozen.ReadOnlyLaws.{named_at}
-use Rattle.test_definitions.specs.Alike.{has_count, AlikeAt, opens_alike, Idle, StandAlike, StaysAlike}
+use Rattle.test_definitions.specs.Alike.{Idle, StandAlike, StaysAlike}
 use Rattle.test_definitions.proofs.AlikePlaceLaws.{buffer_blocks}
-use Rattle.test_definitions.proofs.ChangedPlaceLaws.{KeepsOwners, own_owner, value_below}
-use Rattle.test_definitions.proofs.ChangedPlaceRowLaws.{ObjectsThere, cells_of}
+use Rattle.test_definitions.proofs.ChangedPlaceLaws.{own_owner, value_below}
+use Rattle.test_definitions.proofs.ChangedPlaceRowLaws.{cells_of}
+use Rattle.test_definitions.proofs.ContainerValueLaws.{seen_count, count_alike, key_there, value_before}
 use Rattle.test_definitions.proofs.KeptRowLaws.{one, unchanged_alike, idle_alike}
 use Rattle.test_definitions.proofs.NewPartLaws.{Was, was_there, was_alike, Came, came_there, came_alike, container_label, container_long, may_go, one_more_block}
 use Rattle.test_definitions.proofs.OnePlaceLaws.{RefersTo, led_in_both, led_one}
@@ -44,34 +43,13 @@ use Rattle.test_definitions.proofs.OwnedBlockLaws.{owned_open}
 use Rattle.test_definitions.proofs.OwningRegisterLaws.{moves_owners, changes_names, changes_uniques}
 use Rattle.test_definitions.proofs.PathOriginLaws.{at_place}
 use Rattle.test_definitions.proofs.PlaceRowLaws.{refers_to, form_there}
-use Rattle.test_definitions.proofs.PlaceStepLaws.{Touched, nothing_changes}
+use Rattle.test_definitions.proofs.PlaceStepLaws.{Touched}
 use Rattle.test_definitions.proofs.PlaceTwoStepLaws.{Side, ChangesWithin, PlaceSteps, mine, theirs, within_whole, place_step, now_there, beside}
-use Rattle.test_definitions.proofs.PlaceValueLaws.{value_there}
 use Rattle.test_definitions.proofs.AddedValueLaws.{IsAdding, IsContainer, IndexBy, AbsentBy, Added, adds, entries_value, default_empty, NoContent, FullAt, no_cells, full_at}
 use Rattle.test_definitions.proofs.AddedValueLaws.{next_one, item_is, cells_between, cells_with, SeenLabel, map_seen, values_in, label_in}
 use Rattle.test_definitions.proofs.GrownBlockLaws.{Gets, by_three, LacksBy, adding_gets, few_more}
 
 -- ---- the new part
-
--- a value that a container contains
-record Contained (bytes : List ℕ) (place : Place) (v : Value) : Type 0 where
-  label : Label
-  seen : SeenLabel label
-  values : Values
-  value_is : v ≡ node label values
-  counted : count_at bytes place.at ≡ count values
-
-contained : (bytes : List ℕ) (table : Table) (place : Place) (form : Form) → form_at table place.type ≡ Some form → IsContainer form → {v : Value} {its : List ℕ} → Holds bytes table place v its → Contained bytes place v
-contained bytes table place form f s (holds form' opened inside owned f' o' hs v_is its_are) =
-    let forms : form' ≡ form = (let e : Some form' ≡ Some form = sym f' ∙ f in cc) in
-    let o = subst (λ (g : Form). Opens bytes table place g opened) forms o' in
-    record {
-      label = opened.label;
-      seen = container_label bytes table place form opened s o;
-      values = inside;
-      value_is = v_is;
-      counted = sym (container_long bytes table place form opened s o) ∙ count_is bytes table hs;
-    }
 
 module _ {others : List Root} {s : State} {new : List ℕ} (after : Pictures others s new) (path : Path) {op : Operation} {c : ℕ} {X Y : State} (pp : Added op c X Y path)
     (seen : path_value (trees_of after) path ≡ Some (node pp.label pp.now)) where
@@ -92,26 +70,6 @@ module _ {others : List Root} {s : State} {new : List ℕ} (after : Pictures oth
       let below = named_at (IsBelow next fs) s (all_named (IsBelow next fs) after d.named) path w is in
       let these = cells_between (IsBelow next fs) left right v (subst (AllByRecursion (IsBelow next fs)) (ap names_in w_is ∙ label_seen.cells (append left (cons v right))) below) in
       no_cells mean v (subst NoContent (sym is_default) (default_empty X.types pp.type)) (each_weaker (IsBelow next fs) (FullAt mean) (λ q b. full_at fs d.distinct d.falling next q b) (names_in v) these)
-
--- the cell counts the items that clients see
-seen_count : {others : List Root} {s : State} {bytes : List ℕ} (p : Pictures others s bytes) (path : Path) (table : Table) (place : Place) (form : Form) → form_at table place.type ≡ Some form → IsContainer form
-    → {v : Value} {blocks : List ℕ} → Holds bytes table place v blocks → path_value s path ≡ Some v → (label : Label) (us : Values) → path_value (trees_of p) path ≡ Some (node label us) → count_at bytes place.at ≡ count us
-seen_count {s = s} {bytes = bytes} p path table place form f container {v = v} h is label us seen =
-    let mean = meaning_in (word bytes next_word) p.picture in
-    let held = contained bytes table place form f container h in
-    let trees : replaced mean v ≡ node label us = (let e : Some (replaced mean v) ≡ Some (node label us) = sym (value_same mean s path v is) ∙ seen in cc) in
-    let values : replaced_each mean held.values ≡ us = values_in (sym (held.seen.trees mean held.values) ∙ ap (replaced mean) (sym held.value_is) ∙ trees) in
-    held.counted ∙ sym (count_replaced mean held.values) ∙ ap count values
-
-container_counts : (form : Form) → IsContainer form → has_count form ≡ true
-container_counts (Form.vec U) s = refl
-container_counts (Form.list U) s = refl
-container_counts (Form.flat_map U) s = refl
-container_counts (Form.map U) s = refl
-container_counts form s = absurd s
-
-count_alike : (first second : List ℕ) (table : Table) (place : Place) (form : Form) → form_at table place.type ≡ Some form → IsContainer form → AlikeAt first second table place → count_at second place.at ≡ count_at first place.at
-count_alike first second table place form f s (opens_alike form' opened f' o p n each) = (let forms : form' ≡ form = (let e : Some form' ≡ Some form = sym f' ∙ f in cc) in n (ap has_count forms ∙ container_counts form s))
 
 -- the blocks that may go are among the blocks of the place
 goes_within : (form : Form) (blocks : List ℕ) (h : ℕ) → times h (may_go form blocks) ≤ times h blocks
@@ -191,45 +149,7 @@ same_new m n a b a_seen b_seen left right u v none none_too e =
     let next = next_one (replaced_each m left) (replaced_each n left) (replaced_each m right) (replaced_each n right) (replaced m u) (replaced n v) (count_replaced m left ∙ sym (count_replaced n left)) values in
     (label_in all, sym (nothing_replaced m u none) ∙ next ∙ nothing_replaced n v none_too)
 
--- ---- keys
-
--- a cell is seen as an owner, so a value that is seen as a map is one
-meaning_owner : (n : ℕ) (fs : List Frozen) (p : ℕ) → (vs : Values) × (meaning n fs p ≡ node Label.opt vs)
-unfolding meaning
-meaning_owner zero fs p = (nil, refl)
-meaning_owner (suc n) fs p = go (value_at_position fs p)
-  where
-    go : (o : Option Value) → (vs : Values) × (owner_by (λ v. replaced (meaning n fs) v) o ≡ node Label.opt vs)
-    go None = (nil, refl)
-    go (Some v) = (cons (replaced (meaning n fs) v) nil, refl)
-
-seen_map : (m : ℕ → Value) → ((p : ℕ) → (vs : Values) × (m p ≡ node Label.opt vs)) → (v : Value) (keys : List ℤ) (us : Values) → replaced m v ≡ node (Label.map keys) us → (vs : Values) × (v ≡ node (Label.map keys) vs)
-unfolding replaced
-seen_map m owner (node (Label.shared T p) vs) keys us e = absurd (let f : Label.opt ≡ Label.map keys = label_in (sym (owner p).1 ∙ e) in cc)
-seen_map m owner (node (Label.map ks) vs) keys us e = (vs, ap (λ l. node l vs) (label_in e))
-seen_map m owner (node (Label.int k) vs) keys us e = absurd (let f : Label.int k ≡ Label.map keys = label_in e in cc)
-seen_map m owner (node (Label.text bytes) vs) keys us e = absurd (let f : Label.text bytes ≡ Label.map keys = label_in e in cc)
-seen_map m owner (node Label.seq vs) keys us e = absurd (let f : Label.seq ≡ Label.map keys = label_in e in cc)
-seen_map m owner (node Label.opt vs) keys us e = absurd (let f : Label.opt ≡ Label.map keys = label_in e in cc)
-seen_map m owner (node Label.struct vs) keys us e = absurd (let f : Label.struct ≡ Label.map keys = label_in e in cc)
-
-found_is : (i : Instruction) (s : State) (path : Path) (key : ℤ) (es : List ℤ × Values) → path_of s i.b ≡ Some path → integer_at s i.c ≡ Some key → (path_value s path >>= entries_in) ≡ Some es → found_key i s ≡ key_place es.0 key
-found_is i s path key es is key_is there =
-    ap (λ x. x >>= λ p. integer_at s i.c >>= λ k. (path_value s p >>= entries_in) >>= λ es. key_place es.0 k) is
-    ∙ ap (λ x. x >>= λ k. (path_value s path >>= entries_in) >>= λ es. key_place es.0 k) key_is
-    ∙ ap (λ x. x >>= λ (es : List ℤ × Values). key_place es.0 key) there
-
 module _ (i : Instruction) {others : List Root} {s : State} {bytes : List ℕ} (p : Pictures others s bytes) (path : Path) (is : path_of s i.b ≡ Some path) where
-  -- the entries that clients see have the keys of the state without copies
-  absent_there : (v : Value) → path_value s path ≡ Some v → found_key i s ≡ None → AbsentBy Operation.PutKey i.c (trees_of p) path
-  absent_there v value_is lacks k es key entries =
-      let next = word bytes next_word in
-      let mean = meaning_in next p.picture in
-      let seen = bind_some (path_value (trees_of p) path) entries_in es entries in
-      let trees : replaced mean v ≡ node (Label.map es.0) es.1 = Some_inj (sym (value_same mean s path v value_is) ∙ seen.1) ∙ entries_value seen.0 es seen.2 in
-      let w = seen_map mean (meaning_owner next p.picture.frozen) v es.0 es.1 trees in
-      sym (found_is i s path k (es.0, w.0) is (sym (integer_same mean s i.c) ∙ key) (ap (λ o. o >>= entries_in) (value_is ∙ ap Some w.1))) ∙ lacks
-
   -- the index of a new key
   index_there : (j : ℕ) → new_index i s ≡ Some j → (at : ℕ) → ((k : ℤ) (es : List ℤ × Values) → integer_at (trees_of p) i.c ≡ Some k → (path_value (trees_of p) path >>= entries_in) ≡ Some es → at ≡ keys_below es.0 k) → at ≡ j
   index_there j e at at_is =
@@ -252,9 +172,6 @@ IndexedBy Operation.PutKey i s was at = (j : ℕ) → new_index i s ≡ Some j �
 IndexedBy operation i s was at = ⊥
 
 -- ---- PUSH, PUSHF and PUTK
-
-same_face : (a b : Root) → a ≡ b → HasFace a b
-same_face a b e = subst (HasFace a) e (record { same_name = refl; same_words = refl; same_at = refl; same_type = refl; same_count = refl })
 
 module _ (constants : List Constant) (others : List Root) (moves : List Move) (i : Instruction) (which : IsAdding i.operation) (x z y w : Situation) where
   no_names : changes_names i.operation ≡ false
@@ -316,24 +233,6 @@ module _ (constants : List Constant) (others : List Root) (moves : List Move) (i
       table_form : {bytes : List ℕ} (p : Pictures others r.before.plain bytes) (place : Place) (form : Form) → LedTo constants i p place form → form_at p.picture.table place.type ≡ Some form
       table_form p place form l = ap (λ (k : Table). form_at k place.type) p.types ∙ l.form_is
 
-      -- the place's old value, which clients see
-      old_there : (place : Place) (form : Form) (its : List ℕ) (t : Touched constants i false side.before y.image place form its)
-          → (v : Value) × (blocks : List ℕ) × Holds x.image side.before.picture.table place v blocks × (path_value r.before.plain t.led_to.path ≡ Some v)
-      old_there place form its t =
-          let p = side.before in
-          let l = t.led_to in
-          let start = found l.path l.path_is in
-          let kept : KeepsOwners p x.image place its = λ h some none none_frozen. nothing_changes x.image x.image p.picture p.held (spot_of p.picture.table place) its refl h some none in
-          let objects : ObjectsThere p x.image l.path place l.stands start.0 start.1 its t.holds_it kept p = record {
-            tables = refl;
-            names = λ name. refl;
-            uniques = λ T. refl;
-            stay = record { names = λ name a b e f. same_face a b (Some_inj (sym e ∙ f)); uniques = λ T a b e f. same_face a b (Some_inj (sym e ∙ f)) };
-            owned_at = refl;
-          } in
-          let there = value_there p x.image l.path place l.stands start.0 start.1 its t.holds_it kept p objects refl in
-          (there.now, there.blocks, there.holds_now, there.value_is)
-
       row_adds : (place : Place) (form : Form) (its : List ℕ) (t : Touched constants i false side.before y.image place form its) → Added i.operation i.c x.state y.state t.led_to.path
       row_adds place form its t = by r.row
         where
@@ -342,7 +241,9 @@ module _ (constants : List Constant) (others : List Root) (moves : List Move) (i
 
           absent : AbsentBy i.operation i.c x.state t.led_to.path
           absent = by_three (λ o. LacksBy o i r.before.plain → AbsentBy o i.c x.state t.led_to.path) i.operation which (λ k. tt) (λ k. tt)
-              (λ k. (let old = old_there place form its t in subst (λ (s : State). AbsentBy Operation.PutKey i.c s t.led_to.path) (sym r.before.trees) (absent_there i r.before.pictured t.led_to.path t.led_to.path_is old.0 old.3 k))) lacks
+              (λ k. (
+              let old = value_before constants i side.before found place form its t in
+              subst (λ (s : State). AbsentBy Operation.PutKey i.c s t.led_to.path) (sym r.before.trees) (key_there i r.before.pictured t.led_to.path t.led_to.path_is old.value old.value_is None k))) lacks
 
           by : RowWith constants i x.image x.state success y.state → Added i.operation i.c x.state y.state t.led_to.path
           by (inl (room, e)) = adds constants i.a i.b i.c i.number room x.state y.state t.led_to.path there i.operation which absent e
@@ -399,8 +300,8 @@ module _ (constants : List Constant) (others : List Root) (moves : List Move) (i
           let below_too : (h : ℕ) → times h its ≤ times h (positions (live z.image)) = λ h. omega (arith, below h, ap (λ bs. times h (positions bs)) stand.images.live_same) in
           let paths : u.led_to.path ≡ path = (let e : Some u.led_to.path ≡ Some path = sym u.led_to.path_is ∙ t.led_to.path_is in cc) in
           let their_value : path_value q.after.plain path ≡ Some nz.now = ap (λ (k : Path). path_value q.after.plain k) (sym paths) ∙ nz.value_is in
-          let old = old_there place form its t in
-          let counted = seen_count side.before path table place form f container old.2 old.3 pp.was_label pp.was (ap (λ (s : State). path_value s path) (sym r.before.trees) ∙ pp.was_there) in
+          let old = value_before constants i side.before found place form its t in
+          let counted = seen_count side.before path table place form f container old.holds_it old.value_is pp.was_label pp.was (ap (λ (s : State). path_value s path) (sym r.before.trees) ∙ pp.was_there) in
           let counted_too = count_alike x.image z.image table place form f container led.alike_at ∙ counted in
           let indexed : IndexedBy i.operation i r.before.plain pp.was pp.at = by_three (λ o. IndexBy o i.c x.state path pp.was pp.at → IndexedBy o i r.before.plain pp.was pp.at) i.operation which (λ e. e) (λ e. e)
           (λ at_is j e. index_there i r.before.pictured path t.led_to.path_is j e pp.at (subst (λ (s : State). IndexBy Operation.PutKey i.c s path pp.was pp.at) r.before.trees at_is)) pp.at_is in

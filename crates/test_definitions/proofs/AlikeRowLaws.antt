@@ -18,7 +18,7 @@ use Rattle.test_definitions.proofs.AddingStepLaws.{adding_alike}
 use Rattle.test_definitions.proofs.UniqueStepLaws.{unique_alike}
 use Rattle.test_definitions.proofs.NewStepLaws.{new_alike}
 use Rattle.test_definitions.proofs.DropStepLaws.{drop_alike}
-use Rattle.test_definitions.proofs.PopFrontStepLaws.{pop_front_alike}
+use Rattle.test_definitions.proofs.RemovingStepLaws.{removing_alike}
 
 module _ (constants : List Constant) (others : List Root) (moves : List Move) (i : Instruction) (x z y w : Situation) (first second : Answer) (stand : StandAlike others x z) (r : RowOn constants others moves i x first y)
     (q : RowOn constants others moves i z second w) where
@@ -32,7 +32,7 @@ module _ (constants : List Constant) (others : List Root) (moves : List Move) (i
   by_operation Operation.FindOrMakeUnique is e = unique_alike constants others moves i (inr is) x z y w first second stand r q
   by_operation Operation.New is e = new_alike constants others moves i is x z y w first second stand r q
   by_operation Operation.Drop is e = drop_alike constants others moves i is x z y w first second stand r q
-  by_operation Operation.PopFront is e = pop_front_alike constants others moves i is x z y w first second stand r q
+  by_operation Operation.PopFront is e = removing_alike constants others moves i (inr (inl is)) x z y w first second stand r q
   by_operation Operation.Share is e = share_alike constants others moves i is x z y w first second stand r q
   by_operation Operation.Clear is e = clear_alike constants others moves i is x z y w first second stand r q
   by_operation Operation.Make is e = cc
@@ -43,9 +43,9 @@ module _ (constants : List Constant) (others : List Root) (moves : List Move) (i
   by_operation Operation.Take is e = cc
   by_operation Operation.PushBack is e = adding_alike constants others moves i (inl is) x z y w first second stand r q
   by_operation Operation.PushFront is e = adding_alike constants others moves i (inr (inl is)) x z y w first second stand r q
-  by_operation Operation.PopBack is e = cc
+  by_operation Operation.PopBack is e = removing_alike constants others moves i (inl is) x z y w first second stand r q
   by_operation Operation.PutKey is e = adding_alike constants others moves i (inr (inr is)) x z y w first second stand r q
-  by_operation Operation.DeleteKey is e = cc
+  by_operation Operation.DeleteKey is e = removing_alike constants others moves i (inr (inr is)) x z y w first second stand r q
   by_operation Operation.Freeze is e = cc
   by_operation o is e = unchanged_alike constants others moves i x z y w first second stand r q (ap (λ p. keeps_image p first) is ∙ reads_keep o refl first)
 

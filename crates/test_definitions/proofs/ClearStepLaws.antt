@@ -1,6 +1,5 @@
 -- Two situations that clients can't tell apart stay so after CLEAR.
 use Rattle.std.proofs.Common.{◌≡◌, ℕ, ◌+◌, ◌≤◌, inl, inr, true, false, List, [], ◌∷◌, ◌++◌, length, Some, refl, sym, ap, ◌∙◌, subst, arith}
-use Rattle.std.specs.List.{AllByRecursion}
 use Rattle.seg_spec.specs.Bytes.{word}
 use Rattle.seg_spec.specs.Header.{allocator_word, next_word}
 use Rattle.seg_spec.specs.Types.{Form, Table}
@@ -13,7 +12,7 @@ use Rattle.seg_spec.specs.Shared.{names_in, IsBelow, replaced}
 use Rattle.seg_spec.specs.Counting.{FrozenGone}
 use Rattle.seg_spec.specs.Demand.{after_asks, after_gives}
 use Rattle.seg_spec.specs.Spending as spending
-use Rattle.seg_spec.proofs.Heap.LiveBlockLaws.{times-append, live-once, times-same}
+use Rattle.seg_spec.proofs.Heap.LiveBlockLaws.{live-once, times-same}
 use Rattle.seg_spec.proofs.Values.OneValueLaws.{Holds-one}
 use Rattle.client_spec.specs.declared.table.Operation.{Operation}
 use Rattle.client_spec.specs.Syntax.{Constant, Instruction}
@@ -28,10 +27,6 @@ use Rattle.client_spec.proofs.Unfolded.PictureTreeLaws.{all_named}
 use Rattle.client_sim.proofs.Frozen.ReadOnlyLaws.{named_at}
 use Rattle.test_definitions.specs.Alike.{StandAlike, StaysAlike}
 use Rattle.test_definitions.proofs.BareValueLaws.{bare_alike}
-use Rattle.test_definitions.proofs.ChangedPlaceLaws.{its_within, its_owned, counted_left}
-use Rattle.test_definitions.proofs.EndedImageLaws.{frozen_by, gives_times, parted, at_times}
-use Rattle.test_definitions.proofs.FrozenApartLaws.{frozen_apart}
-use Rattle.test_definitions.proofs.FrozenReleasedLaws.{released_stay, each_based}
 use Rattle.test_definitions.proofs.KeptRowLaws.{one, unchanged_alike}
 use Rattle.test_definitions.proofs.OnePlaceLaws.{RefersTo, led_one}
 use Rattle.test_definitions.proofs.OneRow.{itself}
@@ -39,22 +34,16 @@ use Rattle.test_definitions.proofs.OwningRegisterLaws.{moves_owners, changes_nam
 use Rattle.test_definitions.proofs.PathOriginLaws.{at_place}
 use Rattle.test_definitions.proofs.PlaceRowLaws.{refers_to, cleared_there}
 use Rattle.test_definitions.proofs.PlaceStepLaws.{Touched}
-use Rattle.test_definitions.proofs.ChangedPlaceRowLaws.{CellsWithin, Beside}
-use Rattle.test_definitions.proofs.PlaceTwoStepLaws.{Side, LiveBeside, ReleasesWithin, PlaceSteps, mine, theirs, beside, place_step}
+use Rattle.test_definitions.proofs.ChangedPlaceRowLaws.{Beside}
+use Rattle.test_definitions.proofs.ReleasedPartLaws.{Releases, lives_then, lives, releases_within}
+use Rattle.test_definitions.proofs.PlaceTwoStepLaws.{Side, ReleasesWithin, PlaceSteps, mine, theirs, beside, place_step}
 use Rattle.test_definitions.proofs.PlaceValueLaws.{value_there, There}
 use Rattle.std.proofs.lemmas.List.{append-nil}
 use Rattle.seg_spec.proofs.Frozen.PartCountLaws.{names_same}
 use Rattle.client_spec.proofs.Unfolded.UnfoldedStateLaws.{value_same}
 use Rattle.client_spec.proofs.Unfolded.UnfoldedValueLaws.{nothing_replaced}
 use Rattle.test_definitions.proofs.DefaultCellLaws.{default_cells}
-use Rattle.test_definitions.proofs.OwnedBlockLaws.{FrozenStay, owned_open}
-
--- ---- what is freed
-
-record ClearFrees {others : List Root} {s : State} {bytes : List ℕ} (p : Pictures others s bytes) (new its : List ℕ) (value : Value) : Type 0 where
-  shared : List ℕ
-  freeing : FrozenGone bytes p.picture (names_in value) shared
-  left_is : live new ≡ after_gives (live bytes) (its ++ shared)
+use Rattle.test_definitions.proofs.OwnedBlockLaws.{owned_open}
 
 none_in : (xs : List ℕ) → ((h : ℕ) → 1 ≤ times h xs → ⊥) → xs ≡ []
 none_in [] f = refl
@@ -78,8 +67,9 @@ module _ {constants : List Constant} {others : List Root} {i : Instruction} {pla
   abbrev start : (f : Value × ℕ) × (at_origin s touched.led_to.path.origin ≡ Some f)
   start = found touched.led_to.path touched.led_to.path_is
 
-  frees : ClearFrees p new its touched.value
-  frees =
+  -- the old value is destroyed
+  goes : Releases p new
+  goes =
       let g : GrantsAsks constants i p new = subst (λ o. ChangesOnSuccess constants i p o new) is changed in
       let asks : g.asks ≡ [] = subst (λ o. AsksBy constants i p o g.asks) is g.asked in
       let blocks : live bytes ≡ g.blocks = (let e : Some (live bytes) ≡ Some g.blocks = ap (after_asks (word bytes allocator_word) (live bytes) (length bytes)) (sym asks) ∙ g.granted in cc) in
@@ -90,34 +80,19 @@ module _ {constants : List Constant} {others : List Root} {i : Instruction} {pla
       let old = Holds-one bytes s.types (subst (λ (z : Place). Holds bytes s.types z e.value e.own) (sym one_place.0) e.holds) holds_it in
       let with_frozen = e.gives_are in
       record {
+        own = its;
+        gone = names_in touched.value;
         shared = with_frozen.0;
         freeing = subst (λ v. FrozenGone bytes p.picture (names_in v) with_frozen.0) old.0 with_frozen.1;
-        left_is = g.left ∙ (λ j. after_gives (sym blocks j) (spending.replaced (word bytes allocator_word) (live bytes) (length bytes) (asks j) ++ with_frozen.2 j)) ∙ (λ j. after_gives (live bytes) (old.1 j ++ with_frozen.0));
+        left = g.left ∙ (λ j. after_gives (sym blocks j) (spending.replaced (word bytes allocator_word) (live bytes) (length bytes) (asks j) ++ with_frozen.2 j)) ∙ (λ j. after_gives (live bytes) (old.1 j ++ with_frozen.0));
       }
 
-  shared_frozen : (h : ℕ) → times h frees.shared ≤ times h (frozen_apart bytes p.picture p.held).frozen
-  shared_frozen h =
-      let apart = frozen_apart bytes p.picture p.held in
-      let all = frozen_by bytes p.picture.table frees.freeing.theirs p.picture.frozen apart.frozen apart.holds_frozen frees.freeing.holds in
-      omega (arith, ap (times h) frees.freeing.blocks_are, parted frees.freeing.theirs (names_in touched.value) p.picture.frozen h, ap (times h) all)
-
-  live_then : (h : ℕ) → times h (positions (live new)) + (times h its + times h frees.shared) ≡ times h (positions (live bytes))
-  live_then h =
-      let within : (g : ℕ) → times g (its ++ frees.shared) ≤ times g (positions (live bytes)) = λ g. omega (
-        arith,
-        times-append g its frees.shared,
-        shared_frozen g,
-        its_within p new path place l start.0 start.1 its touched.holds_it touched.kept g,
-        its_owned p new path place l start.0 start.1 its touched.holds_it touched.kept g,
-        (frozen_apart bytes p.picture p.held).counts g,
-      ) in
-      omega (arith, gives_times (live bytes) (its ++ frees.shared) h within, times-append h its frees.shared, ap (λ bs. times h (positions bs)) frees.left_is)
-
-  lives : LiveBeside p new its
-  lives h some none none_frozen = omega (arith, some, none, none_frozen, shared_frozen h, live_then h)
+  all_its : (h : ℕ) → times h goes.own ≤ times h its
+  unfolding goes
+  all_its h = omega arith
 
   abbrev b : Beside p new path place l start.0 start.1 its touched.holds_it touched.kept after
-  b = beside k path place l start.0 start.1 its touched.holds_it touched.kept lives
+  b = beside k path place l start.0 start.1 its touched.holds_it touched.kept (lives k found place form its touched goes all_its)
 
   now : There p new path place l start.0 start.1 its touched.holds_it touched.kept after b.objects k.same_owners
   now = value_there p new path place l start.0 start.1 its touched.holds_it touched.kept after b.objects k.same_owners
@@ -130,30 +105,24 @@ module _ {constants : List Constant} {others : List Root} {i : Instruction} {pla
   no_names_in : (v : Value) (news : List ℕ) → Holds new p.picture.table place v news → names_in v ≡ []
   no_names_in v news h = ap names_in (Holds-one new p.picture.table h now.holds_now).0 ∙ now_none
 
-  cells : CellsWithin p new place
-  cells v news h = subst (AllByRecursion (IsBelow (word bytes next_word) p.picture.frozen)) (sym (no_names_in v news h)) tt
-
-  stay : FrozenStay p new path place l start.0 start.1 its touched.holds_it touched.kept after b
-  stay =
-      let names : names_in touched.value ≡ names_in touched.value ++ names_in now.now = sym (append-nil (names_in touched.value)) ∙ ap (λ cs. names_in touched.value ++ cs) (sym now_none) in
-      released_stay p new path place l start.0 start.1 its touched.holds_it touched.kept after b k.same_owners p.picture.frozen (each_based p.picture.frozen) (names_in touched.value) now.now now.blocks now.holds_now
-      (counted_left p new path place l start.0 start.1 its touched.holds_it touched.kept (names_in touched.value) now.now (names_same names)) frees.freeing.theirs frees.freeing.holds (λ f i. at_times f p.picture.frozen i)
-      (λ h some. omega (arith, some, ap (times h) frees.freeing.blocks_are, live_then h, live-once bytes (word bytes allocator_word) p.held.laid_out.heap h))
+  pub clears_within : ReleasesWithin p after place its k.frozen
+  unfolding goes
+  clears_within = releases_within k found place form its touched goes all_its
+      (λ v news h. names_same (sym (append-nil (names_in touched.value)) ∙ ap (λ cs. names_in touched.value ++ cs) (sym (no_names_in v news h))))
 
   -- the place owns no block
   now_bare : now.blocks ≡ []
+  unfolding goes
   now_bare = none_in now.blocks (λ h some. (
-      let o = owned_open p new path place l start.0 start.1 its touched.holds_it touched.kept after b stay k.same_owners now.blocks now.holds_now h some in
+      let o = owned_open p new path place l start.0 start.1 its touched.holds_it touched.kept after b clears_within.frozen_stays k.same_owners now.blocks now.holds_now h some in
+      let then_live : times h (positions (live new)) + (times h its + times h goes.shared) ≡ times h (positions (live bytes)) = (lives_then k found place form its touched goes all_its h).0 in
       elim o.1 [
-        | inl none ↦ absurd (omega (arith, o.0, none, live_then h))
-        | inr mine ↦ absurd (omega (arith, o.0, mine, live_then h, live-once bytes (word bytes allocator_word) p.held.laid_out.heap h))
+        | inl none ↦ absurd (omega (arith, o.0, none, then_live))
+        | inr mine ↦ absurd (omega (arith, o.0, mine, then_live, live-once bytes (word bytes allocator_word) p.held.laid_out.heap h))
       ]))
 
   pub bare_now : (v : Value) (news : List ℕ) → Holds new p.picture.table place v news → (names_in v ≡ []) × (news ≡ [])
   bare_now v news h = (no_names_in v news h, (Holds-one new p.picture.table h now.holds_now).1 ∙ now_bare)
-
-  pub clears_within : ReleasesWithin p after place its k.frozen
-  clears_within = record { cells = cells; lives = lives; frozen_stays = stay }
 
 -- ---- two rows
 

@@ -49,8 +49,6 @@ pub mod DefaultCellLaws
 pub mod ClearStepLaws
 pub mod RaisedCountLaws
 pub mod ShareStepLaws
-pub mod PopFrontLaws
-pub mod PopFrontStepLaws
 pub mod FrozenContentLaws
 pub mod EndedImageLaws
 pub mod AlikeEndLaws
@@ -74,8 +72,13 @@ pub mod ShrinkStepLaws
 pub mod BareValueLaws
 pub mod AddedValueLaws
 pub mod NewPartLaws
+pub mod ContainerValueLaws
 pub mod GrownBlockLaws
 pub mod AddingStepLaws
+pub mod RemovedValueLaws
+pub mod RemovedPartLaws
+pub mod ReleasedPartLaws
+pub mod RemovingStepLaws
 pub mod AnsweredRowLaws
 pub mod OwnerRegisterLaws
 pub mod GrownImageLaws

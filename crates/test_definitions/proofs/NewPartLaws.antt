@@ -30,11 +30,11 @@ joined : (xs ys zs : List ℕ) → xs ++ (ys ++ zs) ≡ (xs ++ ys) ++ zs
 joined [] ys zs = refl
 joined (x ∷ xs) ys zs = ap (λ ws. x ∷ ws) (joined xs ys zs)
 
-none_in : (ps : List Place) → length ps ≡ 0 → ps ≡ []
+pub none_in : (ps : List Place) → length ps ≡ 0 → ps ≡ []
 none_in [] e = refl
 none_in (p ∷ ps) e = absurd (omega (arith, e))
 
-one_in : (ps : List Place) → length ps ≡ 1 → (p : Place) × (ps ≡ p ∷ [])
+pub one_in : (ps : List Place) → length ps ≡ 1 → (p : Place) × (ps ≡ p ∷ [])
 one_in [] e = absurd (omega (arith, e))
 one_in (p ∷ []) e = (p, refl)
 one_in (p ∷ q ∷ ps) e = absurd (omega (arith, e))
@@ -42,17 +42,17 @@ one_in (p ∷ q ∷ ps) e = absurd (omega (arith, e))
 -- ---- parts in two lists
 
 module _ (bytes : List ℕ) (table : Table) where
-  record Halves (ps qs : List Place) (vs : Values) (blocks : List ℕ) : Type 0 where
-    left : Values
-    right : Values
-    xs : List ℕ
-    ys : List ℕ
-    lefts : HoldsEach bytes table ps left xs
-    rights : HoldsEach bytes table qs right ys
-    values_are : vs ≡ append left right
-    blocks_are : blocks ≡ xs ++ ys
+  pub record Halves (ps qs : List Place) (vs : Values) (blocks : List ℕ) : Type 0 where
+    pub left : Values
+    pub right : Values
+    pub xs : List ℕ
+    pub ys : List ℕ
+    pub lefts : HoldsEach bytes table ps left xs
+    pub rights : HoldsEach bytes table qs right ys
+    pub values_are : vs ≡ append left right
+    pub blocks_are : blocks ≡ xs ++ ys
 
-  halves : (ps qs : List Place) {vs : Values} {blocks : List ℕ} → HoldsEach bytes table (ps ++ qs) vs blocks → Halves ps qs vs blocks
+  pub halves : (ps qs : List Place) {vs : Values} {blocks : List ℕ} → HoldsEach bytes table (ps ++ qs) vs blocks → Halves ps qs vs blocks
   halves [] qs {vs = vs} {blocks = blocks} hs = record { left = nil; right = vs; xs = []; ys = blocks; lefts = holds_none; rights = hs; values_are = refl; blocks_are = refl }
   halves (p ∷ ps) qs (holds_more {v = v} {blocks = bs} h hs) =
       let r = halves ps qs hs in
@@ -78,15 +78,15 @@ module _ (bytes : List ℕ) (table : Table) where
     pub blocks_are : its ≡ before.blocks ++ (xs ++ ys)
 
 module _ (first second : List ℕ) (table : Table) where
-  alike_left : (ps qs : List Place) → AlikeEach first second table (ps ++ qs) → AlikeEach first second table ps
+  pub alike_left : (ps qs : List Place) → AlikeEach first second table (ps ++ qs) → AlikeEach first second table ps
   alike_left [] qs a = none_alike
   alike_left (p ∷ ps) qs (more_alike a rest) = more_alike a (alike_left ps qs rest)
 
-  alike_right : (ps qs : List Place) → AlikeEach first second table (ps ++ qs) → AlikeEach first second table qs
+  pub alike_right : (ps qs : List Place) → AlikeEach first second table (ps ++ qs) → AlikeEach first second table qs
   alike_right [] qs a = a
   alike_right (p ∷ ps) qs (more_alike a rest) = alike_right ps qs rest
 
-  alike_joined : (ps qs : List Place) → AlikeEach first second table ps → AlikeEach first second table qs → AlikeEach first second table (ps ++ qs)
+  pub alike_joined : (ps qs : List Place) → AlikeEach first second table ps → AlikeEach first second table qs → AlikeEach first second table (ps ++ qs)
   alike_joined [] qs none_alike b = b
   alike_joined (p ∷ ps) qs (more_alike a rest) b = more_alike a (alike_joined ps qs rest b)
 
@@ -147,7 +147,7 @@ abbrev pub into_node : Form → ℕ
 into_node (Form.map U) = map_words
 into_node form = 8
 
-node_blocks : (bytes : List ℕ) (table : Table) (place : Place) (form : Form) (o : Opened) → has_nodes (Some form) ≡ true → Opens bytes table place form o → o.blocks ≡ map (λ (q : Place). block_of (q.at - into_node form)) o.parts
+pub node_blocks : (bytes : List ℕ) (table : Table) (place : Place) (form : Form) (o : Opened) → has_nodes (Some form) ≡ true → Opens bytes table place form o → o.blocks ≡ map (λ (q : Place). block_of (q.at - into_node form)) o.parts
 node_blocks bytes table place (Form.list U) o e p =
     ap (λ (x : Opened). x.blocks) p.opened_is ∙ nodes_back U 8 p.nodes ∙ sym (ap (λ (x : Opened). map (λ (q : Place). block_of (q.at - 8)) x.parts) p.opened_is)
 node_blocks bytes table place (Form.map U) o e p =
@@ -155,14 +155,14 @@ node_blocks bytes table place (Form.map U) o e p =
 node_blocks bytes table place form o e p = cc
 
 -- a container has a buffer or nodes
-buffer_or_nodes : (form : Form) → IsContainer form → (has_buffer (Some form) ≡ true) ⊎ (has_nodes (Some form) ≡ true)
+pub buffer_or_nodes : (form : Form) → IsContainer form → (has_buffer (Some form) ≡ true) ⊎ (has_nodes (Some form) ≡ true)
 buffer_or_nodes (Form.vec U) s = inl refl
 buffer_or_nodes (Form.list U) s = inr refl
 buffer_or_nodes (Form.flat_map U) s = inl refl
 buffer_or_nodes (Form.map U) s = inr refl
 buffer_or_nodes form s = absurd s
 
-map_joined : (f : Place → ℕ) (ps qs : List Place) → map f (ps ++ qs) ≡ map f ps ++ map f qs
+pub map_joined : (f : Place → ℕ) (ps qs : List Place) → map f (ps ++ qs) ≡ map f ps ++ map f qs
 map_joined f [] qs = refl
 map_joined f (p ∷ ps) qs = ap (λ xs. f p ∷ xs) (map_joined f ps qs)
 
@@ -276,7 +276,7 @@ module _ (old new : List ℕ) (table : Table) (place : Place) (form : Form) (f :
 -- ---- two images
 
 -- a member of the first blocks is one of the others, since no block is in both lists
-in_first : (xs bs cs zs ys : List ℕ) → xs ≡ bs ++ zs → ys ≡ cs ++ zs → ((h : ℕ) → 1 ≤ times h xs → 1 ≤ times h ys) → ((h : ℕ) → times h xs ≤ 1) → (h : ℕ) → 1 ≤ times h bs → 1 ≤ times h cs
+pub in_first : (xs bs cs zs ys : List ℕ) → xs ≡ bs ++ zs → ys ≡ cs ++ zs → ((h : ℕ) → 1 ≤ times h xs → 1 ≤ times h ys) → ((h : ℕ) → times h xs ≤ 1) → (h : ℕ) → 1 ≤ times h bs → 1 ≤ times h cs
 in_first xs bs cs zs ys e f forth once h some = (
     let a = ap (times h) e ∙ times-append h bs zs in
     let b = forth h (omega (arith, a, some)) in

@@ -8,7 +8,7 @@ use Rattle.seg_spec.specs.Reads.{Place, Opened, Opens, Leads, here, into, places
 use Rattle.client_spec.specs.declared.table.Operation.{Operation}
 use Rattle.client_spec.specs.Syntax.{Constant}
 use Rattle.client_spec.specs.Machine.{◌>>=◌, Path, State, at_origin, path_value, path_type, put_at, part_type, type_along}
-use Rattle.client_spec.specs.Answer.{Answer, success, path_of, path_form, integer_at, text_in, items_in, list_item, int_in}
+use Rattle.client_spec.specs.Answer.{Answer, success, path_of, path_form, integer_at, text_in, items_in, int_in}
 use Rattle.client_spec.specs.Effect.{effect}
 use Rattle.client_spec.proofs.TypedStates.ValueLaws.{Some_inj, bind_some}
 use Rattle.client_spec.proofs.TypedStates.StateLaws.{origin_put_same}
@@ -102,12 +102,6 @@ put_there s p old new e =
     let a = bind_some (at_origin s p.origin) (λ (found : Value × ℕ). value_at found.0 p.selectors) old e in
     ap (λ z. path_value z p) (put_at_is s p a.0.0 new a.0.1 a.1) ∙ ap (λ (o : Option (Value × ℕ)). o >>= λ found. value_at found.0 p.selectors)
     (origin_put_same s p.origin a.0.0 (with_value_at p.selectors new a.0.0) a.0.1 a.1) ∙ put_same p.selectors a.0.0 old new a.2
-
--- POPF has a row only for a list
-pub pops_list : (constants : List Constant) (a b c : ℕ) (number : ℤ) (room : Bool) (X : State) (r : Answer × State) → effect constants Operation.PopFront a b c number room X ≡ Some r
-    → (p : Path) (k : Form) → path_of X b ≡ Some p → path_form X p ≡ Some k → list_item k ≡ None → ⊥
-unfolding effect
-pops_list constants a b c number room X r e p k is form none = (let h : None ≡ Some r = cc in cc)
 
 -- POP has a row only for a text or for items
 pub pops_from : (constants : List Constant) (a b c : ℕ) (number : ℤ) (room : Bool) (X : State) (r : Answer × State) → effect constants Operation.PopBack a b c number room X ≡ Some r → (p : Path) → path_of X b ≡ Some p

@@ -15,7 +15,7 @@ use Rattle.client_spec.proofs.TypedStates.ShapeLaws.{IsOf, form_of_value}
 use Rattle.client_spec.specs.declared.table.Operation.{Operation}
 use Rattle.client_spec.specs.Syntax.{Constant, Instruction}
 use Rattle.client_spec.specs.Machine.{◌>>=◌, Origin, Path, Register, Object, State, register, owned_by, at_origin, path_type, type_along, path_value}
-use Rattle.client_spec.specs.Answer.{Answer, bad_alloc, path_in, path_of, path_form, text_in, items_in, list_item, int_in}
+use Rattle.client_spec.specs.Answer.{Answer, bad_alloc, path_in, path_of, path_form, text_in, items_in, int_in}
 use Rattle.client_spec.specs.Effect.{effect, outcome}
 use Rattle.client_spec.specs.Trees.{unfolded_register}
 use Rattle.client_spec.specs.Pictures.{object_of, root_of_register, Pictures, PicturesTrees, root_at, meaning_in}
@@ -26,7 +26,7 @@ use Rattle.client_spec.proofs.TypedStates.PictureLaws.{unique_one, option_some}
 use Rattle.client_spec.proofs.TypedStates.ValueLaws.{Some_inj, bind_some, has_value_at}
 use Rattle.client_sim.proofs.Objects.OwnedRootLaws.{owned_split}
 use Rattle.test_definitions.specs.Alike.{has_count}
-use Rattle.test_definitions.proofs.PathOriginLaws.{at_place, begins_there, shrinks_buffer, type_led, clears_to, put_there, pops_list, pops_from, stores_in, writes_text}
+use Rattle.test_definitions.proofs.PathOriginLaws.{at_place, begins_there, shrinks_buffer, type_led, clears_to, put_there, pops_from, stores_in, writes_text}
 use Rattle.test_definitions.proofs.OnePlaceLaws.{RefersTo}
 
 path_unfolded : (m : ℕ → Value) (x : Register) (path : Path) → path_in x ≡ Some path → path_in (unfolded_register m x) ≡ Some path
@@ -115,17 +115,6 @@ module _ (constants : List Constant) (i : Instruction) {others : List Root} (z :
           let c = clears_to constants i.a i.b i.c i.number room z (answer, after) (subst (λ op. effect constants op i.a i.b i.c i.number room z ≡ Some (answer, after)) is e) l.path (path_then l.path l.path_is) in
           (c.1, ap (λ (t : State). path_value t l.path) c.3 ∙ put_there z l.path c.0 (default_of z.types c.1) c.2)
       by (inr (w, full)) = absurd (let h : Operation.Freeze ≡ Operation.Clear = sym w.freezes ∙ is in cc)
-
-  -- POPF has a row only for a list
-  pub list_there : i.operation ≡ Operation.PopFront → (place : Place) (form : Form) → LedTo constants i p.pictured place form → (U : ℕ) × (form ≡ Form.list U)
-  list_there is place form l =
-      let r = has_row in
-      by form (pops_list constants i.a i.b i.c i.number r.room z r.reached (subst (λ op. effect constants op i.a i.b i.c i.number r.room z ≡ Some r.reached) is r.is) l.path form (path_then l.path l.path_is)
-      (form_there (ap at_place is) place form l))
-    where
-      by : (form : Form) → (list_item form ≡ None → ⊥) → (U : ℕ) × (form ≡ Form.list U)
-      by (Form.list U) some = (U, refl)
-      by form some = absurd (some refl)
 
   -- the value of the place has the place's form
   pub typed_there : at_place i.operation ≡ true → (place : Place) (form : Form) (l : LedTo constants i p.pictured place form) (v : Value) → path_value z l.path ≡ Some v → IsOf z.types form v

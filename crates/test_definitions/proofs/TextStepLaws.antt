@@ -15,7 +15,7 @@ use Rattle.seg_spec.specs.Block.{block_of}
 use Rattle.seg_spec.specs.Reads.{Place, Opened, Holds, count_at, named}
 use Rattle.seg_spec.specs.Index.{Root}
 use Rattle.seg_spec.specs.Sound.{times, positions}
-use Rattle.seg_spec.specs.Shared.{IsBelow}
+use Rattle.seg_spec.specs.Shared.{IsBelow, replaced}
 use Rattle.seg_spec.specs.Demand.{Ask, growth, growth_if_needed, after_ask, blocks_then, after_asks, after_gives}
 use Rattle.seg_spec.specs.Spending.{units_named, buffer_asks, old_of}
 use Rattle.seg_spec.specs.Spending as spending
@@ -30,12 +30,13 @@ use Rattle.client_spec.specs.Asks.{LedTo, AsksBy, AsksAt, cell_asks, new_bytes, 
 use Rattle.client_spec.specs.Ties.{OfPlace, TouchesBy, keeps_image, places_of}
 use Rattle.client_spec.specs.OnImages.{Move, Situation, RowOn}
 use Rattle.client_spec.proofs.Unfolded.UnfoldedValueLaws.{nothing_replaced}
-use Rattle.test_definitions.specs.Alike.{StandAlike, StaysAlike}
+use Rattle.test_definitions.specs.Alike.{AlikeAt, StandAlike, StaysAlike}
 use Rattle.test_definitions.proofs.KeptRowLaws.{one, unchanged_alike}
 use Rattle.test_definitions.proofs.OnePlaceLaws.{RefersTo, led_one}
 use Rattle.test_definitions.proofs.OneRow.{itself}
 use Rattle.test_definitions.proofs.OwningRegisterLaws.{moves_owners, changes_names, changes_uniques}
 use Rattle.test_definitions.proofs.PathOriginLaws.{at_place}
+use Rattle.test_definitions.proofs.PersistAlikeLaws.{Fits}
 use Rattle.test_definitions.proofs.PlaceRowLaws.{refers_to, text_there}
 use Rattle.test_definitions.proofs.PlaceStepLaws.{Touched}
 use Rattle.test_definitions.proofs.PlaceTwoStepLaws.{Side, ChangesWithin, PlaceSteps, mine, theirs, within_whole, place_step}
@@ -170,6 +171,20 @@ members_one (Some p) (Some q) f g = go (cases_eq (block_of q) (block_of p))
     go (inl e) = ap (λ n. n ∷ []) (sym e)
     go (inr other) = absurd (omega (arith, f (block_of p) (omega (arith, times-same (block_of p) [])), times-other (block_of p) (block_of q) [] other))
 
+-- texts that clients see as the same, in the same block, are alike again
+pub text_again : (new another : List ℕ) (table : Table) (place : Place) → form_at table place.type ≡ Some Form.str → {a b : Value} {xs ys : List ℕ} → Holds new table place a xs → AllByRecursion (Fits new) xs → Holds another table place b ys
+    → AllByRecursion (Fits another) ys → (m n : ℕ → Value) → replaced m a ≡ replaced n b → ((h : ℕ) → 1 ≤ times h xs → 1 ≤ times h ys) → ((h : ℕ) → 1 ≤ times h ys → 1 ≤ times h xs) → AlikeAt new another table place
+text_again new another table place f {a} {b} {xs} {ys} h fits k fits_too m n seen forth back =
+    let mine_held = leaf_held new table place Form.str tt f h in
+    let their_held = leaf_held another table place Form.str tt f k in
+    let values : a ≡ b = sym (nothing_replaced m a mine_held.no_cells) ∙ seen ∙ nothing_replaced n b their_held.no_cells in
+    let mine_blocks : xs ≡ named new place.at = mine_held.blocks_are ∙ ap (λ (o : Opened). o.blocks) mine_held.opens.opened_is in
+    let their_blocks : ys ≡ named another place.at = their_held.blocks_are ∙ ap (λ (o : Opened). o.blocks) their_held.opens.opened_is in
+    let blocks = members_one (target new place.at) (target another place.at)
+    (λ e some. subst (λ bs. 1 ≤ times e bs) their_blocks (forth e (subst (λ bs. 1 ≤ times e bs) (sym mine_blocks) some)))
+    (λ e some. subst (λ bs. 1 ≤ times e bs) mine_blocks (back e (subst (λ bs. 1 ≤ times e bs) (sym their_blocks) some))) in
+    leaf_alike new another table place Form.str f mine_held their_held values (mine_blocks ∙ blocks ∙ sym their_blocks) fits fits_too
+
 -- the request for the text's buffer
 record TextAsks (bytes : List ℕ) (at : ℕ) (asks : List Ask) : Type 0 where
   wanted : ℕ
@@ -243,16 +258,7 @@ module _ (constants : List Constant) (others : List Root) (moves : List Move) (i
                 (within_place side.before place its f t.holds_it (subst (LedTo constants i side.before place) text t.led_to) side.blocks);
             within_second = within_whole constants others moves i no_names no_uniques x z y w success second stand r q keeps found other place form its u
                 (within_place other.before place its g u.holds_it (subst (LedTo constants i other.before place) text u.led_to) theirs_success);
-            inner = λ a b xs ys h fits k fits_too m n same forth back once once_too. (
-                let mine_held = leaf_held y.image side.before.picture.table place Form.str tt f h in
-                let their_held = leaf_held w.image side.before.picture.table place Form.str tt f k in
-                let values : a ≡ b = sym (nothing_replaced m a mine_held.no_cells) ∙ same ∙ nothing_replaced n b their_held.no_cells in
-                let mine_blocks : xs ≡ named y.image place.at = mine_held.blocks_are ∙ ap (λ (o : Opened). o.blocks) mine_held.opens.opened_is in
-                let their_blocks : ys ≡ named w.image place.at = their_held.blocks_are ∙ ap (λ (o : Opened). o.blocks) their_held.opens.opened_is in
-                let blocks = members_one (target y.image place.at) (target w.image place.at)
-                (λ e some. subst (λ bs. 1 ≤ times e bs) their_blocks (forth e (subst (λ bs. 1 ≤ times e bs) (sym mine_blocks) some)))
-                (λ e some. subst (λ bs. 1 ≤ times e bs) mine_blocks (back e (subst (λ bs. 1 ≤ times e bs) (sym their_blocks) some))) in
-                leaf_alike y.image w.image side.before.picture.table place Form.str f mine_held their_held values (mine_blocks ∙ blocks ∙ sym their_blocks) fits fits_too);
+            inner = λ a b xs ys h fits k fits_too m n same forth back once once_too. text_again y.image w.image side.before.picture.table place f h fits k fits_too m n same forth back;
           }
 
   pub text_alike : (first second : Answer) → StandAlike others x z → RowOn constants others moves i x first y → RowOn constants others moves i z second w → StaysAlike others first second y w
