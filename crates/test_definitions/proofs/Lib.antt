@@ -69,6 +69,7 @@ pub mod PlaceTwoStepLaws
 pub mod StoreStepLaws
 pub mod OneSharedLaws
 pub mod OwnedBlockLaws
+pub mod IndexAlikeLaws
 pub mod TextStepLaws
 pub mod ShrinkStepLaws
 pub mod BareValueLaws
