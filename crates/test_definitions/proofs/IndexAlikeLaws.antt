@@ -10,13 +10,14 @@ use Rattle.seg_spec.specs.Heap.{live, tag_at}
 use Rattle.seg_spec.specs.Block.{block_of, tag_of, Kind, KeepsBlock}
 use Rattle.seg_spec.specs.Apart.{KeepsBlockAround}
 use Rattle.seg_spec.specs.Shapes.{tree_words}
-use Rattle.seg_spec.specs.Index.{Root, AreEntries}
+use Rattle.seg_spec.specs.Index.{Root, Index, AreEntries}
 use Rattle.seg_spec.specs.Sound.{Picture, IsHeld, times, SameBlocks, positions}
 use Rattle.seg_spec.specs.Roots.{KeepsNodes}
 use Rattle.seg_spec.proofs.Heap.BlockFrameLaws.{around_kept}
 use Rattle.seg_spec.proofs.Heap.LiveBlockLaws.{LiesIn, times-same, times-more, there, live-lie, live-once}
 use Rattle.seg_spec.proofs.Values.PlaceFrameLaws.{target-same}
 use Rattle.seg_spec.proofs.Values.PartPositionLaws.{In, in_each}
+use Rattle.client_sim.proofs.Names.OnePictureLaws.{OpensIndex-one}
 use Rattle.test_definitions.specs.Alike.{AreAlike}
 use Rattle.test_definitions.proofs.AlikePictureLaws.{SameEntries, entries_alike, node_there, tree_index}
 use Rattle.test_definitions.proofs.ChangedPlaceRowLaws.{node_tags, of_index, same_members}
@@ -41,6 +42,13 @@ index_is_long bytes p held = by (word bytes index_kind_word) refl (length p.name
     by zero is zero names = (flat_index bytes p held is).none names
     by zero is (suc n) names = (flat_index bytes p held is).some (omega (arith, names))
     by (suc kind) is n names = (node_tags bytes p held (λ flat. absurd (omega (arith, is, flat)))).1 ∙ names
+
+-- the bytes of an image determine the blocks of its index
+pub index_blocks_one : (bytes : List ℕ) (p q : Picture) (held : IsHeld bytes p) (held_too : IsHeld bytes q) → held.index_blocks ≡ held_too.index_blocks
+index_blocks_one bytes p q held held_too =
+    let n = held.laid_out.names in
+    let m = held_too.laid_out.names in
+    n.blocks_are ∙ ap (λ (i : Index). i.blocks) (OpensIndex-one bytes p.table (word bytes index_kind_word) n.index m.index n.opens m.opens) ∙ sym m.blocks_are
 
 -- ---- one image
 

@@ -76,6 +76,7 @@ pub mod BareValueLaws
 pub mod AddedValueLaws
 pub mod NewPartLaws
 pub mod GrownBlockLaws
+pub mod MadeBlockLaws
 pub mod AddingStepLaws
 pub mod AnsweredRowLaws
 pub mod OwnerRegisterLaws
