@@ -59,8 +59,8 @@ module _ (constants : List Constant) (others : List Root) (moves : List Move) (i
   module _ (s : NodesStay x.image y.image r.before.pictured.held.index_blocks) (u : NodesStay z.image w.image q.before.pictured.held.index_blocks) where
     -- if there are the same names as before
     pub both_as_before : r.after.pictured.picture.names ≡ r.before.pictured.picture.names → BothEnter
-    both_as_before names tree same = entries_before stand.images y.image w.image (λ e. tree (s.kinds ∙ e)) r.after.pictured.picture r.after.pictured.held (subst (NodesStay x.image y.image) nodes s) (subst (NodesStay z.image w.image) nodes_too u)
-        (ap length (names ∙ mine.names))
+    both_as_before names tree same = entries_before stand.images y.image w.image (λ e. tree (s.kinds ∙ e)) r.after.pictured.picture r.after.pictured.held (subst (NodesStay x.image y.image) nodes s)
+        (subst (NodesStay z.image w.image) nodes_too u) (ap length (names ∙ mine.names))
 
     -- if a name came
     pub both_with : (a b : Root) → b.at ≡ a.at → ((c : Root) → IsAmong c r.after.pictured.picture.names → (c ≡ a) ⊎ IsAmong c r.before.pictured.picture.names)

@@ -86,6 +86,8 @@ pub mod GrownStepLaws
 pub mod NewObjectLaws
 pub mod UniqueStepLaws
 pub mod NewStepLaws
+pub mod MakeRowLaws
+pub mod MakeStepLaws
 pub mod DropStepLaws
 pub mod AlikeRowLaws
 pub mod Several
