@@ -62,7 +62,7 @@ module _ (constants : List Constant) (others : List Root) (moves : List Move) (i
     both_as_before names tree same = entries_before stand.images y.image w.image (λ e. tree (s.kinds ∙ e)) r.after.pictured.picture r.after.pictured.held (subst (NodesStay x.image y.image) nodes s)
         (subst (NodesStay z.image w.image) nodes_too u) (ap length (names ∙ mine.names))
 
-    -- if a name came
+    -- if a name was added
     pub both_with : (a b : Root) → b.at ≡ a.at → ((c : Root) → IsAmong c r.after.pictured.picture.names → (c ≡ a) ⊎ IsAmong c r.before.pictured.picture.names)
         → ((c : Root) → IsAmong c q.after.pictured.picture.names → (c ≡ b) ⊎ IsAmong c q.before.pictured.picture.names) → BothEnter
     both_with a b at back back_too tree same = entries_come stand.images y.image w.image (λ e. tree (s.kinds ∙ e)) r.after.pictured.picture r.after.pictured.held (subst (NodesStay x.image y.image) nodes s)

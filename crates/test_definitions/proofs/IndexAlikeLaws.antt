@@ -1,6 +1,6 @@
--- The index of an image whose names change. Its number of blocks depends on the number of names alone.
--- If it is a tree, each node that stays allocated keeps its entry, and a node that came has the entry of
--- the name that came. So two images whose indices were alike have the same entries again.
+-- The index of an image whose names change. Its number of blocks depends only on the number of names. If it
+-- is a tree, each node that stays allocated keeps its entry, and an added node has the entry of the added
+-- name. So two images whose indices were alike have the same entries again.
 use Rattle.std.proofs.Common.{◌≡◌, ◌≢◌, ℕ, zero, suc, ◌+◌, ◌≤◌, ◌⊎◌, inl, inr, List, [], ◌∷◌, length, map, Some, refl, sym, ap, ◌∙◌, subst, arith}
 use Rattle.std.proofs.lemmas.Bool.{cases_eq}
 use Rattle.seg_spec.specs.Bytes.{word}
@@ -28,8 +28,8 @@ use Rattle.test_definitions.proofs.RootMemberLaws.{IsAmong, counts, names_once}
 
 -- ---- the number of blocks
 
--- the number of blocks of an index of n names: a flat one has a buffer if there are names, and a tree has a
--- node for each
+-- the number of blocks of an index: a flat one has one buffer if there are names, and a tree has one node for
+-- each name
 abbrev pub index_long : (kind names : ℕ) → ℕ
 index_long zero zero = 0
 index_long zero (suc n) = 1
@@ -52,8 +52,7 @@ index_blocks_one bytes p q held held_too =
 
 -- ---- one image
 
--- the blocks of the index before a change of names: if the index is a tree, they stay allocated, and keep
--- their entries
+-- If the index is a tree, its nodes before a change of names stay allocated and keep their entries.
 pub record NodesStay (old new nodes : List ℕ) : Type 0 where
   pub kinds : word new index_kind_word ≡ word old index_kind_word
   pub kept : KeepsNodes old new nodes
@@ -90,14 +89,14 @@ module _ (old new : List ℕ) (was : Picture) (held : IsHeld old was) (tree : wo
 
 -- ---- the entries of nodes
 
--- the entry of a node is that of a name
+-- each node has the entry of a name
 entry_of : (bytes ns : List ℕ) (names : List Root) (node : ℕ) → AreEntries bytes (map (λ n. n + tree_words) ns) names → In node ns → (r : Root) × IsAmong r names × (target bytes (node + tree_words) ≡ Some r.at)
 entry_of bytes [] names node e i = absurd i
 entry_of bytes (n ∷ ns) [] node e i = absurd e
 entry_of bytes (n ∷ ns) (r ∷ names) node e (inl same) = (r, inl refl, ap (λ k. target bytes (k + tree_words)) same ∙ e.0.points)
 entry_of bytes (n ∷ ns) (r ∷ names) node e (inr i) = (let k = entry_of bytes ns names node e.1 i in (k.0, inr k.1, k.2))
 
--- a name has an entry in a node
+-- each name has an entry in a node
 node_of : (bytes ns : List ℕ) (names : List Root) (r : Root) → AreEntries bytes (map (λ n. n + tree_words) ns) names → IsAmong r names → (node : ℕ) × In node ns × (target bytes (node + tree_words) ≡ Some r.at)
 node_of bytes [] [] r e i = absurd i
 node_of bytes [] (x ∷ names) r e i = absurd e
@@ -114,7 +113,7 @@ module _ (old new : List ℕ) (was now : Picture) (held : IsHeld old was) (held_
   tree_now : word new index_kind_word ≡ 0 → ⊥
   tree_now e = tree (sym s.kinds ∙ e)
 
-  -- no node came if there are as many names
+  -- no node was added if there are as many names
   pub nodes_before : length now.names ≡ length was.names → (h : ℕ) → 1 ≤ times h held_now.index_blocks → 1 ≤ times h held.index_blocks
   nodes_before as_many h some =
       let long = (node_tags new now held_now tree_now).1 ∙ as_many ∙ sym (node_tags old was held tree).1 in
@@ -126,7 +125,7 @@ module _ (old new : List ℕ) (was now : Picture) (held : IsHeld old was) (held_
           let there_is = node_stays old new was held tree s.kept now held_now k (omega (arith, more)) (s.stay tree k (omega (arith, more))) in
           omega (arith, there_is, counts old was held k, live-once old (word old allocator_word) held.laid_out.heap k)
 
-  -- the entry of a node that came is that of the name that came
+  -- an added node has the entry of the added name
   pub entry_comes : (a : Root) → ((c : Root) → IsAmong c now.names → (c ≡ a) ⊎ IsAmong c was.names) → (node : ℕ) → 16 ≤ node → 1 ≤ times (block_of node) held_now.index_blocks → times (block_of node) held.index_blocks ≡ 0
       → target new (node + tree_words) ≡ Some a.at
   entry_comes a back node low some none =
@@ -169,11 +168,11 @@ module _ {others : List Root} {places first second : List ℕ} (alike : AreAlike
     was_there : (node : ℕ) → 16 ≤ node → 1 ≤ times (block_of node) alike.held.index_blocks → target other (node + tree_words) ≡ target new (node + tree_words)
     was_there node low some = entries_stay s.kept u.kept node low some (s.stay tree (block_of node) some) (u.stay tree_too (block_of node) (some_too (block_of node) some))
 
-    -- if no name came
+    -- if no name was added
     pub entries_before : length now.names ≡ length alike.picture.names → SameEntries new other held_now.index_blocks
     entries_before as_many node low some = was_there node low (nodes_before first new alike.picture now alike.held held_now tree s as_many (block_of node) some)
 
-    -- if the same name came to both
+    -- if the same name was added to both
     pub entries_come : (now_too : Picture) (held_too : IsHeld other now_too) (a b : Root) → b.at ≡ a.at → ((c : Root) → IsAmong c now.names → (c ≡ a) ⊎ IsAmong c alike.picture.names)
         → ((c : Root) → IsAmong c now_too.names → (c ≡ b) ⊎ IsAmong c alike.picture.names) → SameBlocks held_now.index_blocks held_too.index_blocks → SameEntries new other held_now.index_blocks
     entries_come now_too held_too a b at back back_too same node low some = go (cases_eq (times (block_of node) alike.held.index_blocks) 0)

@@ -133,7 +133,7 @@ named_as_many ms ns a b same =
 
 -- ---- one more name
 
--- the roots but the one of this name
+-- the roots without the one of this name
 abbrev without_name : List ℕ → List Root → List Root
 without_name name [] = []
 without_name name (r ∷ rs) = if same_name name r.name then rs else r ∷ without_name name rs
@@ -184,7 +184,7 @@ others_without name other (r ∷ rs) apart = go (same_name name r.name) refl (ot
     go true e later = sym (ap (λ c. if c then Some r else root_named rs other) (ap (same_name other) (same_name_is name r.name e) ∙ apart))
     go false e later = ap (λ o. if same_name other r.name then Some r else o) later
 
--- if one name came, and each other search has the same result, there is one more named object
+-- If one name was added, and the search for each other name has the same result, there is one more root.
 pub one_more_name : (ms ns : List Root) (name : List ℕ) (a : Root) → AreAscending (Names ms) → AreAscending (Names ns) → root_named ns name ≡ Some a → root_named ms name ≡ None
     → ((other : List ℕ) → same_name other name ≡ false → root_named ns other ≡ root_named ms other) → length ns ≡ suc (length ms)
 one_more_name ms ns name a asc asc_too some none beside =

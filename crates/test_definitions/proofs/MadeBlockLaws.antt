@@ -1,5 +1,5 @@
--- The allocated blocks after MAKE and FINDOR made a named object: the object's block came. A flat index has
--- its buffer in the same block or in a new one, and a tree index got one more node.
+-- The allocated blocks after MAKE or FINDOR made a named object. The object has a new block. A flat index has
+-- its buffer in the same block or in a new one, and a tree index has one more node.
 use Rattle.std.proofs.Common.{◌≡◌, ℕ, zero, suc, ◌+◌, ◌-◌, ◌*◌, ◌≤◌, Bool, true, false, List, [], ◌∷◌, ◌++◌, length, Option, Some, None, option_map, option_to_list, refl, sym, ap, ◌∙◌, subst, arith, length-append}
 use Rattle.std.specs.Prelude.{if◌then◌else◌, nat_le, option_and_then}
 use Rattle.std.specs.Option.{option_map_or, option_or}
@@ -22,7 +22,7 @@ use Rattle.client_spec.specs.Ties.{GetsBlock}
 use Rattle.test_definitions.proofs.IndexAlikeLaws.{index_long, index_is_long}
 use Rattle.test_definitions.proofs.TextStepLaws.{Grants, by_ask}
 
--- One block has the entry. It may be the old one; if it isn't, the old one is freed.
+-- One block has room for the entry. It is the old block, or a new one, and then the old one is freed.
 record Entered (bs new : List Span) (old : List ℕ) : Type 0 where
   come : List ℕ
   one : length come ≡ 1
@@ -65,7 +65,7 @@ module _ (allocator : ℕ) (bs : List Span) (end : ℕ) (blocks new : List Span)
       by None f done left = cc
       by (Some g) f done left = given g old f (by_ask allocator bs end old ask is g f) (let e : Some (blocks_then g) ≡ Some blocks = done in cc) is within left
 
-  -- a flat index of n names gets room for one more
+  -- a flat index of n names gets room for one more name
   entered_flat : (t : Option ℕ) (units : ℕ → ℕ) (n : ℕ) → ((h : ℕ) → times h (option_to_list (option_map block_of t)) ≤ times h (positions bs))
       → after_asks allocator bs end (growth_if_needed (option_map_or units t 0) (option_map block_of t) 8 n (n + 1)) ≡ Some blocks
       → new ≡ after_gives blocks (spending.replaced allocator bs end (growth_if_needed (option_map_or units t 0) (option_map block_of t) 8 n (n + 1)) ++ [])
@@ -84,8 +84,7 @@ module _ (allocator : ℕ) (bs : List Span) (end : ℕ) (blocks new : List Span)
 
 -- ---- both requests
 
--- The blocks of the index after it got one more entry: as many as there are to be. The nodes of a tree are
--- among them.
+-- The blocks of the index after one more entry was added. The nodes that a tree had are among them.
 pub record MakesRoom (old new : List ℕ) (p : Picture) (index : List ℕ) (at : ℕ) : Type 0 where
   pub entries : List ℕ
   pub long : length entries ≡ index_long (word old index_kind_word) (suc (length p.names))
@@ -93,7 +92,8 @@ pub record MakesRoom (old new : List ℕ) (p : Picture) (index : List ℕ) (at :
   pub nodes_in : (word old index_kind_word ≡ 0 → ⊥) → (h : ℕ) → times h index ≤ times h entries
 
 module _ (old new : List ℕ) (p : Picture) (held : IsHeld old p) where
-  first_granted : (at : ℕ) (bs : List Span) (m : ℕ) → after_ask (word old allocator_word) (live old) (length old) (block_for m) ≡ Some (fresh (block_of at) bs) → (h : ℕ) → times h (positions bs) ≡ times h (block_of at ∷ positions (live old))
+  first_granted : (at : ℕ) (bs : List Span) (m : ℕ) → after_ask (word old allocator_word) (live old) (length old) (block_for m) ≡ Some (fresh (block_of at) bs) → (h : ℕ)
+      → times h (positions bs) ≡ times h (block_of at ∷ positions (live old))
   first_granted at bs m e = by_ask (word old allocator_word) (live old) (length old) None (block_for m) refl (fresh (block_of at) bs) e
 
   pub room_made : (m at : ℕ) (asks : List Ask) (gives : List ℕ) (blocks : List Span) → asks ≡ block_for m ∷ entry_asks (word old index_kind_word) old → gives ≡ []

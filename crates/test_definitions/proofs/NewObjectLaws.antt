@@ -1,4 +1,4 @@
--- A row that makes an object, and changes nothing else but the index: it keeps all other blocks, and gets one.
+-- A row that makes an object keeps all blocks but those of the index, and gets one for the object.
 use Rattle.std.proofs.Common.{◌≡◌, ℕ, ◌+◌, ◌≤◌, ◌⊎◌, inl, inr, true, false, List, [], ◌∷◌, ◌++◌, length, Option, Some, None, option_map, refl, sym, ap, ◌∙◌, subst, arith}
 use Rattle.std.specs.Prelude.{is_some, option_and_then}
 use Rattle.std.specs.Option.{option_map_or}
