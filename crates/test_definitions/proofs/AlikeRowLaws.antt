@@ -17,6 +17,7 @@ use Rattle.test_definitions.proofs.ShrinkStepLaws.{shrink_alike}
 use Rattle.test_definitions.proofs.AddingStepLaws.{adding_alike}
 use Rattle.test_definitions.proofs.UniqueStepLaws.{unique_alike}
 use Rattle.test_definitions.proofs.NewStepLaws.{new_alike}
+use Rattle.test_definitions.proofs.MakeStepLaws.{make_alike}
 use Rattle.test_definitions.proofs.DropStepLaws.{drop_alike}
 use Rattle.test_definitions.proofs.RemovingStepLaws.{removing_alike}
 
@@ -35,8 +36,8 @@ module _ (constants : List Constant) (others : List Root) (moves : List Move) (i
   by_operation Operation.PopFront is e = removing_alike constants others moves i (inr (inl is)) x z y w first second stand r q
   by_operation Operation.Share is e = share_alike constants others moves i is x z y w first second stand r q
   by_operation Operation.Clear is e = clear_alike constants others moves i is x z y w first second stand r q
-  by_operation Operation.Make is e = cc
-  by_operation Operation.FindOrMake is e = cc
+  by_operation Operation.Make is e = make_alike constants others moves i (inl is) x z y w first second stand r q
+  by_operation Operation.FindOrMake is e = make_alike constants others moves i (inr is) x z y w first second stand r q
   by_operation Operation.Kill is e = cc
   by_operation Operation.KillUnique is e = cc
   by_operation Operation.Put is e = cc

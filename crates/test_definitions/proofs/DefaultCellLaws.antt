@@ -4,7 +4,7 @@ use Rattle.std.specs.List.{AllByRecursion}
 use Rattle.seg_spec.specs.Bytes.{word}
 use Rattle.seg_spec.specs.Header.{next_word}
 use Rattle.seg_spec.specs.Types.{Form, Table, built}
-use Rattle.seg_spec.specs.Value.{Label, Value, node, Values, nil, cons, Int, Full, field_defaults, default_by, default_of}
+use Rattle.seg_spec.specs.Value.{Label, Value, node, Values, nil, cons, Int, Full, copies, field_defaults, default_by, default_of}
 use Rattle.seg_spec.specs.Reads.{Place}
 use Rattle.seg_spec.specs.Shared.{names_in, names_each, IsBelow, replaced, replaced_each}
 use Rattle.seg_spec.proofs.Frozen.UnfoldedTreeLaws.{found}
@@ -12,7 +12,7 @@ use Rattle.seg_spec.proofs.Images.LooseRootLaws.{each_joined}
 use Rattle.seg_spec.proofs.Values.PlaceFrameLaws.{each_left, each_right, each_weaker}
 use Rattle.client_spec.specs.Machine.{State}
 use Rattle.client_spec.specs.Pictures.{Pictures, meaning_in}
-use Rattle.client_spec.proofs.Unfolded.UnfoldedValueLaws.{nothing_replaced}
+use Rattle.client_spec.proofs.Unfolded.UnfoldedValueLaws.{nothing_replaced, nothing_each}
 use Rattle.client_sim.proofs.Frozen.FrozenPlaceLaws.{frozen_means}
 use Rattle.seg_spec.specs.Index.{Root}
 
@@ -66,6 +66,11 @@ default_nothing : (table : Table) (T : ℕ) → OwnsNothing (default_of table T)
 unfolding default_of
 default_nothing table T = get_nothing (built default_by [] table) T (built_nothing [] table tt)
 
+copies_nothing : (table : Table) (T n : ℕ) → owners_each (copies n (default_of table T)) ≡ 0
+unfolding owners_inside owners_each
+copies_nothing table T zero = refl
+copies_nothing table T (suc n) = omega (arith, default_nothing table T, copies_nothing table T n)
+
 -- ---- shared cells, of which clients see owners
 
 module _ (m : ℕ → Value) where
@@ -103,6 +108,15 @@ module _ {others : List Root} {s : State} {bytes : List ℕ} (p : Pictures other
       let none = no_names m v (each_weaker (IsBelow (word bytes next_word) p.picture.frozen) (λ (q : Place). (w : Value) × (m q.at ≡ Full w)) seen_full (names_in v) below)
       (ap owners_inside same ∙ default_nothing table T) in
       (none, sym (nothing_replaced m v none) ∙ same)
+
+  -- the same of several values
+  pub default_cells_each : (vs : Values) (table : Table) (T n : ℕ) → AllByRecursion (IsBelow (word bytes next_word) p.picture.frozen) (names_each vs)
+      → replaced_each (meaning_in (word bytes next_word) p.picture) vs ≡ copies n (default_of table T) → (names_each vs ≡ []) × (vs ≡ copies n (default_of table T))
+  default_cells_each vs table T n below same =
+      let m = meaning_in (word bytes next_word) p.picture in
+      let none = no_names_each m vs (each_weaker (IsBelow (word bytes next_word) p.picture.frozen) (λ (q : Place). (w : Value) × (m q.at ≡ Full w)) seen_full (names_each vs) below)
+      (ap owners_each same ∙ copies_nothing table T n) in
+      (none, sym (nothing_each m vs none) ∙ same)
 
 -- the cells of a single value
 pub one_names : (v : Value) → names_each (cons v nil) ≡ names_in v ++ []

@@ -1,14 +1,14 @@
--- An image that got one more object, and that keeps all blocks that it had: its other objects, its frozen
--- objects and its index stay, and the values of the new object own no blocks.
-use Rattle.std.proofs.Common.{◌≡◌, ◌≢◌, ℕ, ◌+◌, ◌%◌, ◌≤◌, ◌⊎◌, inl, inr, List, [], ◌∷◌, ◌++◌, length, refl, sym, ap, ◌∙◌, subst, arith}
+-- An image that got one more object, and that keeps all blocks that it had but those of its index: its other
+-- objects and its frozen objects stay, and the values of the new object own no blocks.
+use Rattle.std.proofs.Common.{◌≡◌, ◌≢◌, ℕ, ◌+◌, ◌≤◌, ◌⊎◌, inl, inr, List, [], ◌∷◌, ◌++◌, length, refl, sym, ap, ◌∙◌, subst, arith}
 use Rattle.std.specs.List.{AllByRecursion}
 use Rattle.std.proofs.lemmas.Bool.{cases_eq}
 use Rattle.seg_spec.specs.Bytes.{word}
 use Rattle.seg_spec.specs.Header.{allocator_word, next_word, index_kind_word}
 use Rattle.seg_spec.specs.Types.{Table}
 use Rattle.seg_spec.specs.Value.{count}
-use Rattle.seg_spec.specs.Heap.{live, tag_at}
-use Rattle.seg_spec.specs.Block.{block_of, tag_of, Kind, KeepsBlock}
+use Rattle.seg_spec.specs.Heap.{live}
+use Rattle.seg_spec.specs.Block.{block_of, KeepsBlock}
 use Rattle.seg_spec.specs.Reads.{Place, HoldsEach, items}
 use Rattle.seg_spec.specs.Index.{Root}
 use Rattle.seg_spec.specs.Frozen.{Frozen, root_of_frozen}
@@ -16,16 +16,17 @@ use Rattle.seg_spec.specs.Sound.{Picture, IsHeld, IsPlain, HoldsRoots, payload_o
 use Rattle.seg_spec.specs.Shared.{names_in, names_each, IsBelow}
 use Rattle.seg_spec.specs.Counting.{cells_in, owners_in, AreCounted}
 use Rattle.seg_spec.specs.Roots.{HasFace}
-use Rattle.seg_spec.proofs.Heap.LiveBlockLaws.{times-append, times-same, there, each_there, live-once}
+use Rattle.seg_spec.proofs.Heap.LiveBlockLaws.{times-append, times-same, each_there, live-once}
 use Rattle.seg_spec.proofs.Images.RootFrameLaws.{HoldsRoots-kept}
 use Rattle.seg_spec.proofs.Values.PlaceFrameLaws.{each_weaker}
 use Rattle.client_sim.proofs.Names.OnePictureLaws.{plain-one}
-use Rattle.test_definitions.proofs.ChangedPlaceRowLaws.{cells_of, all_cells, of_index, node_tags, same_members}
+use Rattle.test_definitions.proofs.ChangedPlaceRowLaws.{cells_of, all_cells, same_members}
 use Rattle.test_definitions.proofs.EndedImageLaws.{face_one}
 use Rattle.test_definitions.proofs.FrozenApartLaws.{among_either}
 use Rattle.test_definitions.proofs.FrozenOrderLaws.{IsOneOf}
 use Rattle.test_definitions.proofs.OneFrozenLaws.{frozen-one, among_frozen, is_there}
-use Rattle.test_definitions.proofs.OwnedBlockLaws.{flat_index, root_with, frozen_member, two_owners}
+use Rattle.test_definitions.proofs.IndexAlikeLaws.{index_long, index_is_long}
+use Rattle.test_definitions.proofs.OwnedBlockLaws.{root_with, frozen_member, owned_rest, two_owners}
 use Rattle.test_definitions.proofs.ReachedFrozenLaws.{StandsAt, below_stands, all_reached}
 use Rattle.test_definitions.proofs.RootMemberLaws.{IsAmong, among_left, among_right, counts, Owns, owns}
 
@@ -60,12 +61,16 @@ frozen_in q f i = (
     let root = root_of_frozen f in
     among_right root q.names (q.uniques ++ (q.loose ++ frozen_roots q)) (among_right root q.uniques (q.loose ++ frozen_roots q) (among_right root q.loose (frozen_roots q) (among_frozen f q.frozen i))))
 
--- ---- objects of an image that keeps all blocks
+-- ---- objects of an image that keeps all blocks but those of its index
 
-module _ (old new : List ℕ) (was now : Picture) (held : IsHeld old was) (held_now : IsHeld new now) (tables : now.table ≡ was.table) (kept : (h : ℕ) → 1 ≤ times h (positions (live old)) → KeepsBlock old new h) where
+module _ (old new : List ℕ) (was now : Picture) (held : IsHeld old was) (held_now : IsHeld new now) (tables : now.table ≡ was.table)
+    (kept : (h : ℕ) → 1 ≤ times h (positions (live old)) → times h held.index_blocks ≡ 0 → KeepsBlock old new h) where
+  pub root_blocks_kept : AllByRecursion (KeepsBlock old new) held.root_blocks
+  root_blocks_kept = each_there (KeepsBlock old new) held.root_blocks
+      (λ h some. (let c = counts old was held h in kept h (omega (arith, some, c)) (omega (arith, some, c, live-once old (word old allocator_word) held.laid_out.heap h))))
+
   pub still : HoldsRoots new now.table (roots_of was) held.root_blocks
-  still = subst (λ (t : Table). HoldsRoots new t (roots_of was) held.root_blocks) (sym tables)
-      (HoldsRoots-kept old new was.table held.laid_out.is_table held.roots (each_there (KeepsBlock old new) held.root_blocks (λ h some. kept h (omega (arith, some, counts old was held h)))))
+  still = subst (λ (t : Table). HoldsRoots new t (roots_of was) held.root_blocks) (sym tables) (HoldsRoots-kept old new was.table held.laid_out.is_table held.roots root_blocks_kept)
 
   pub faced_one : (c d : Root) → IsAmong c (roots_of was) → IsAmong d (roots_of now) → HasFace c d → d ≡ c
   faced_one c d i j face =
@@ -92,21 +97,21 @@ nothing_there : (xs : List ℕ) → ((h : ℕ) → times h xs ≡ 0) → xs ≡ 
 nothing_there [] f = refl
 nothing_there (x ∷ xs) f = absurd (omega (arith, f x, times-same x xs))
 
--- the image keeps its blocks and its objects; each new object lies in a block of its own
-pub record Grows (old new : List ℕ) (was now : Picture) (News : Root → Type 0) : Type 0 where
+-- The image keeps its blocks but those of its index, and its objects. Each new object lies in a block of its
+-- own, and the index has as many blocks as it needs.
+pub record Grows (old new : List ℕ) (was now : Picture) (index : List ℕ) (News : Root → Type 0) : Type 0 where
   pub tables : now.table ≡ was.table
-  pub kept : (h : ℕ) → 1 ≤ times h (positions (live old)) → KeepsBlock old new h
-  pub stay_live : (h : ℕ) → 1 ≤ times h (positions (live old)) → 1 ≤ times h (positions (live new))
-  pub lives : (a : Root) → News a → (h : ℕ) → times h (positions (live new)) ≡ times h (positions (live old)) + times h (block_of (payload_of a) ∷ [])
-  pub kinds : word new index_kind_word ≡ word old index_kind_word
-  pub as_many : length now.names ≡ length was.names
+  pub kept : (h : ℕ) → 1 ≤ times h (positions (live old)) → times h index ≡ 0 → KeepsBlock old new h
+  pub entries : List ℕ
+  pub long : length entries ≡ index_long (word new index_kind_word) (length now.names)
+  pub lives : (a : Root) → News a → (h : ℕ) → times h (positions (live new)) + times h index ≡ times h (positions (live old)) + times h (block_of (payload_of a) ∷ []) + times h entries
   pub in_now : (a : Root) → News a → IsAmong a (owners_in now)
   pub forth : (c : Root) → IsAmong c (owners_in was) → IsAmong c (owners_in now)
   pub back : (c : Root) → IsAmong c (owners_in now) → News c ⊎ IsAmong c (owners_in was)
   pub no_cells : (a : Root) → News a → names_each a.values ≡ []
 
 module _ (old new : List ℕ) (was now : Picture) (held : IsHeld old was) (held_now : IsHeld new now) (counted : AreCounted (word old next_word) was) (counted_now : AreCounted (word new next_word) now) (News : Root → Type 0)
-    (g : Grows old new was now News) where
+    (g : Grows old new was now held.index_blocks News) where
   still_there : HoldsRoots new now.table (roots_of was) held.root_blocks
   still_there = still old new was now held held_now g.tables g.kept
 
@@ -162,32 +167,6 @@ module _ (old new : List ℕ) (was now : Picture) (held : IsHeld old was) (held_
       by (inl j) = inner (g.back c j)
       by (inr f) = inr (subst (λ (x : Root). IsAmong x (roots_of was)) (sym f.2) (frozen_in was f.0 (frozen_back f.0 f.1)))
 
-  -- ---- the index
-
-  index_forth : (h : ℕ) → 1 ≤ times h held.index_blocks → 1 ≤ times h held_now.index_blocks
-  index_forth h some = go (cases_eq (word old index_kind_word) 0)
-    where
-      there_old : 1 ≤ times h (positions (live old))
-      there_old = omega (arith, some, counts old was held h)
-
-      by : (k tag : ℕ) → (5 ≤ k) × (k ≤ 6) → tag % 256 ≡ k → AllByRecursion (λ b. tag_at old b ≡ tag) held.index_blocks → 1 ≤ times h held_now.index_blocks
-      by k tag kind is tags =
-          let same : tag_at new h ≡ tag = (g.kept h there_old).has_tag ∙ there (λ b. tag_at old b ≡ tag) h held.index_blocks tags some in
-          of_index new now held_now k kind h (g.stay_live h there_old) (ap (λ t. t % 256) same ∙ is)
-
-      go : (word old index_kind_word ≡ 0) ⊎ (word old index_kind_word ≢ 0) → 1 ≤ times h held_now.index_blocks
-      go (inr tree) = by 6 (tag_of Kind.index_node 0) (omega arith, omega arith) (omega arith) (node_tags old was held tree).0
-      go (inl flat) = by 5 (tag_of Kind.index_buffer 0) (omega arith, omega arith) (omega arith) (flat_index old was held flat).tags
-
-  pub index_back : (word old index_kind_word ≡ 0 → ⊥) → (h : ℕ) → 1 ≤ times h held_now.index_blocks → 1 ≤ times h held.index_blocks
-  index_back tree h some =
-      let long = (node_tags new now held_now (λ e. tree (sym g.kinds ∙ e))).1 ∙ g.as_many ∙ sym (node_tags old was held tree).1 in
-      same_members held.index_blocks held_now.index_blocks (λ k. fewer k (cases_eq (times k held.index_blocks) 0)) long h some
-    where
-      fewer : (k : ℕ) → (times k held.index_blocks ≡ 0) ⊎ (times k held.index_blocks ≢ 0) → times k held.index_blocks ≤ times k held_now.index_blocks
-      fewer k (inl none) = omega (arith, none)
-      fewer k (inr more) = omega (arith, index_forth k (omega (arith, more)), counts old was held k, live-once old (word old allocator_word) held.laid_out.heap k)
-
   -- ---- a new object
 
   module _ (a : Root) (n : News a) where
@@ -205,14 +184,31 @@ module _ (old new : List ℕ) (was now : Picture) (held : IsHeld old was) (held_
         let same : times h (block_of (payload_of a) ∷ []) ≡ times h (h ∷ []) = ap (λ (x : Root). times (block_of (payload_of c)) (block_of (payload_of x) ∷ [])) (sym e) in
         omega (arith, head, times-same h o.holds_it.inside, o.fewer h, counts old was held h, g.lives a n h, same, times-same h [], once h)
 
-    none_inside : (h : ℕ) → times h mine.holds_it.inside ≡ 0
-    none_inside h = go (cases_eq (times h mine.holds_it.inside) 0) (cases_eq (times h held.index_blocks) 0) (cases_eq (times h held.root_blocks) 0)
+    -- the index has only blocks that no object has
+    index_fewer : (h : ℕ) → times h held_now.index_blocks ≤ times h g.entries
+    index_fewer h = go (cases_eq (times h held_now.index_blocks) 0) (cases_eq (times h held.root_blocks) 0)
       where
-        go : (times h mine.holds_it.inside ≡ 0) ⊎ (times h mine.holds_it.inside ≢ 0) → (times h held.index_blocks ≡ 0) ⊎ (times h held.index_blocks ≢ 0) → (times h held.root_blocks ≡ 0) ⊎ (times h held.root_blocks ≢ 0)
+        go : (times h held_now.index_blocks ≡ 0) ⊎ (times h held_now.index_blocks ≢ 0) → (times h held.root_blocks ≡ 0) ⊎ (times h held.root_blocks ≢ 0) → times h held_now.index_blocks ≤ times h g.entries
+        go (inl none) r = omega (arith, none)
+        go (inr more) (inl r) = omega (arith, more, r, counts new now held_now h, once h, counts old was held h, g.lives a n h, mine.fewer h, its_are h)
+        go (inr more) (inr r) =
+            let k = root_with new now.table h still_there (omega (arith, r)) in
+            let theirs = owned_rest new now h held_now.roots k.root (root_forth k.root k.among) k.holds_it in
+            absurd (omega (arith, more, k.there_is, theirs, counts new now held_now h, once h))
+
+    index_long_now : length g.entries ≡ length held_now.index_blocks
+    index_long_now = g.long ∙ sym (index_is_long new now held_now)
+
+    none_inside : (h : ℕ) → times h mine.holds_it.inside ≡ 0
+    none_inside h = go (cases_eq (times h mine.holds_it.inside) 0) (cases_eq (times h g.entries) 0) (cases_eq (times h held.root_blocks) 0)
+      where
+        go : (times h mine.holds_it.inside ≡ 0) ⊎ (times h mine.holds_it.inside ≢ 0) → (times h g.entries ≡ 0) ⊎ (times h g.entries ≢ 0) → (times h held.root_blocks ≡ 0) ⊎ (times h held.root_blocks ≢ 0)
             → times h mine.holds_it.inside ≡ 0
         go (inl none) i r = none
-        go (inr more) (inr i) r = absurd (omega (arith, more, index_forth h (omega (arith, i)), counts new now held_now h, once h, mine.fewer h, its_are h))
-        go (inr more) (inl i) (inl r) = absurd (omega (arith, more, i, r, counts old was held h, g.lives a n h, counts new now held_now h, mine.fewer h, its_are h))
+        go (inr more) (inr i) r =
+            let in_index = same_members held_now.index_blocks g.entries index_fewer index_long_now h (omega (arith, i)) in
+            absurd (omega (arith, more, in_index, counts new now held_now h, once h, mine.fewer h, its_are h))
+        go (inr more) (inl i) (inl r) = absurd (omega (arith, more, i, r, counts old was held h, g.lives a n h, counts new now held_now h, once h, mine.fewer h, its_are h))
         go (inr more) (inl i) (inr r) =
             let k = root_with new now.table h still_there (omega (arith, r)) in
             let both = two_owners new now h held_now.roots k.root a (root_forth k.root k.among) (owner_in now a (g.in_now a n)) (other k.root k.among) k.holds_it mine.holds_it in

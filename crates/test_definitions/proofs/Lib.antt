@@ -67,6 +67,7 @@ pub mod PlaceTwoStepLaws
 pub mod StoreStepLaws
 pub mod OneSharedLaws
 pub mod OwnedBlockLaws
+pub mod IndexAlikeLaws
 pub mod TextStepLaws
 pub mod ShrinkStepLaws
 pub mod BareValueLaws
@@ -74,6 +75,7 @@ pub mod AddedValueLaws
 pub mod NewPartLaws
 pub mod ContainerValueLaws
 pub mod GrownBlockLaws
+pub mod MadeBlockLaws
 pub mod AddingStepLaws
 pub mod RemovedValueLaws
 pub mod RemovedPartLaws
@@ -87,6 +89,8 @@ pub mod GrownStepLaws
 pub mod NewObjectLaws
 pub mod UniqueStepLaws
 pub mod NewStepLaws
+pub mod MakeRowLaws
+pub mod MakeStepLaws
 pub mod DropStepLaws
 pub mod AlikeRowLaws
 pub mod Several

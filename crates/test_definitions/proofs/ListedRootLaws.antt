@@ -131,6 +131,71 @@ named_as_many ms ns a b same =
     both name (Some x) None e f g = cc
     both name (Some x) (Some y) e f g = ap Some (only_is x y (same_name_is name x.name (looked_up name x ms e).1 ∙ sym (same_name_is name y.name (looked_up name y ns f).1)))
 
+-- ---- one more name
+
+-- the roots without the one of this name
+abbrev without_name : List ℕ → List Root → List Root
+without_name name [] = []
+without_name name (r ∷ rs) = if same_name name r.name then rs else r ∷ without_name name rs
+
+each_without : (P : Root → Type 0) (name : List ℕ) (rs : List Root) → AllByRecursion P rs → AllByRecursion P (without_name name rs)
+each_without P name [] a = tt
+each_without P name (r ∷ rs) a = go (same_name name r.name) (each_without P name rs a.1)
+  where
+    go : (b : Bool) → AllByRecursion P (without_name name rs) → AllByRecursion P (if b then rs else r ∷ without_name name rs)
+    go true rest = a.1
+    go false rest = (a.0, rest)
+
+put_first : (m : Root) (ms : List Root) → AllByRecursion (λ (r : Root). Precedes m.name r.name) ms → AreAscending (Names ms) → AreAscending (Names (m ∷ ms))
+put_first m [] a asc = tt
+put_first m (n ∷ ms) a asc = (a.0, asc)
+
+ascending_without : (name : List ℕ) (rs : List Root) → AreAscending (Names rs) → AreAscending (Names (without_name name rs))
+ascending_without name [] a = tt
+ascending_without name (r ∷ rs) a =
+    let f = after_first r rs a in
+    go (same_name name r.name) f.1 (put_first r (without_name name rs) (each_without (λ (x : Root). Precedes r.name x.name) name rs f.0) (ascending_without name rs f.1))
+  where
+    go : (b : Bool) → AreAscending (Names rs) → AreAscending (Names (r ∷ without_name name rs)) → AreAscending (Names (if b then rs else r ∷ without_name name rs))
+    go true rest more = rest
+    go false rest more = more
+
+fewer_without : (name : List ℕ) (rs : List Root) (a : Root) → root_named rs name ≡ Some a → length rs ≡ suc (length (without_name name rs))
+fewer_without name [] a e = cc
+fewer_without name (r ∷ rs) a e = go (same_name name r.name) (fewer_without name rs a) e
+  where
+    go : (b : Bool) → (root_named rs name ≡ Some a → length rs ≡ suc (length (without_name name rs))) → (if b then Some r else root_named rs name) ≡ Some a → suc (length rs) ≡ suc (length (if b then rs else r ∷ without_name name rs))
+    go true later e = refl
+    go false later e = ap suc (later e)
+
+none_without : (name : List ℕ) (rs : List Root) → AreAscending (Names rs) → root_named (without_name name rs) name ≡ None
+none_without name [] a = refl
+none_without name (r ∷ rs) a = go (same_name name r.name) refl (none_without name rs (after_first r rs a).1)
+  where
+    go : (b : Bool) → same_name name r.name ≡ b → root_named (without_name name rs) name ≡ None → root_named (if b then rs else r ∷ without_name name rs) name ≡ None
+    go true e later = not_later r rs name e (after_first r rs a).0
+    go false e later = ap (λ c. if c then Some r else root_named (without_name name rs) name) e ∙ later
+
+others_without : (name other : List ℕ) (rs : List Root) → same_name other name ≡ false → root_named (without_name name rs) other ≡ root_named rs other
+others_without name other [] apart = refl
+others_without name other (r ∷ rs) apart = go (same_name name r.name) refl (others_without name other rs apart)
+  where
+    go : (b : Bool) → same_name name r.name ≡ b → root_named (without_name name rs) other ≡ root_named rs other → root_named (if b then rs else r ∷ without_name name rs) other ≡ root_named (r ∷ rs) other
+    go true e later = sym (ap (λ c. if c then Some r else root_named rs other) (ap (same_name other) (same_name_is name r.name e) ∙ apart))
+    go false e later = ap (λ o. if same_name other r.name then Some r else o) later
+
+-- If one name was added, and the search for each other name has the same result, there is one more root.
+pub one_more_name : (ms ns : List Root) (name : List ℕ) (a : Root) → AreAscending (Names ms) → AreAscending (Names ns) → root_named ns name ≡ Some a → root_named ms name ≡ None
+    → ((other : List ℕ) → same_name other name ≡ false → root_named ns other ≡ root_named ms other) → length ns ≡ suc (length ms)
+one_more_name ms ns name a asc asc_too some none beside =
+    fewer_without name ns a some ∙ ap (λ rs. suc (length rs)) (names_listed (without_name name ns) ms (ascending_without name ns asc_too) asc (λ other. each other (same_name other name) refl))
+  where
+    each : (other : List ℕ) (b : Bool) → same_name other name ≡ b → root_named (without_name name ns) other ≡ root_named ms other
+    each other true e =
+        let same : name ≡ other = same_name_is other name e in
+        subst (λ n. root_named (without_name name ns) n ≡ root_named ms n) same (none_without name ns asc_too ∙ sym none)
+    each other false e = others_without name other ns e ∙ beside other e
+
 -- ---- types
 
 rising_below : (U : ℕ) (ms : List Root) → AreRising U ms → AllByRecursion (λ (r : Root). U ≤ r.type) ms

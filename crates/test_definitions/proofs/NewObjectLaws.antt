@@ -1,4 +1,4 @@
--- A row that makes an object without a name, and changes nothing else: it keeps all blocks, and gets one.
+-- A row that makes an object keeps all blocks but those of the index, and gets one for the object.
 use Rattle.std.proofs.Common.{◌≡◌, ℕ, ◌+◌, ◌≤◌, ◌⊎◌, inl, inr, true, false, List, [], ◌∷◌, ◌++◌, length, Option, Some, None, option_map, refl, sym, ap, ◌∙◌, subst, arith}
 use Rattle.std.specs.Prelude.{is_some, option_and_then}
 use Rattle.std.specs.Option.{option_map_or}
@@ -16,7 +16,7 @@ use Rattle.seg_spec.proofs.Heap.AllocationLaws.{one_more}
 use Rattle.seg_spec.proofs.Heap.GrantLaws.{granted_new}
 use Rattle.seg_spec.proofs.Heap.LiveBlockLaws.{times-append, times-more, times-with_block}
 use Rattle.client_spec.specs.Syntax.{Constant, Instruction}
-use Rattle.client_spec.specs.Answer.{success}
+use Rattle.client_spec.specs.Answer.{Answer}
 use Rattle.client_spec.specs.Machine.{State}
 use Rattle.client_spec.specs.Pictures.{Pictures}
 use Rattle.client_spec.specs.Ties.{Spot, nowhere, places_of, GetsBlock, TouchesBy, Changes}
@@ -83,25 +83,28 @@ granted_stay old new n asks gives blocks asks_are gives_are granted_is left h so
 
 -- ---- one row
 
-module _ (constants : List Constant) (others : List Root) (moves : List Move) (i : Instruction) (x y : Situation) (r : RowOn constants others moves i x success y)
-    (touches : (spot : Spot) (own : List ℕ) → TouchesBy constants i r.before.pictured i.operation spot own → (spot ≡ nowhere) × (own ≡ [])) where
+module _ (constants : List Constant) (others : List Root) (moves : List Move) (i : Instruction) (x y : Situation) (answer : Answer) (r : RowOn constants others moves i x answer y) where
+  -- a block that the row may not change is kept
+  pub kept_beside : (h : ℕ) → 1 ≤ times h (positions (live x.image)) → ((spot : Spot) (own : List ℕ) → TouchesBy constants i r.before.pictured i.operation spot own → (spot ≡ nowhere) × (times h own ≡ 0)) → KeepsBlock x.image y.image h
+  kept_beside h some touches = by r.ties.changes
+    where
+      by : (y.image ≡ x.image) ⊎ Changes constants i r.before.pictured y.image → KeepsBlock x.image y.image h
+      by (inl e) = same_whole x.image y.image h e
+      by (inr c) =
+          let t = touches c.spot c.own c.touches in
+          whole x.image y.image h (subst (λ (z : Spot). KeepsBlockAround x.image y.image z.at z.bytes h) t.0 (c.kept h some t.1))
+
+-- an image that keeps all blocks but those of its index
+module _ (constants : List Constant) (others : List Root) (moves : List Move) (i : Instruction) (x y : Situation) (answer : Answer) (r : RowOn constants others moves i x answer y)
+    (kept : (h : ℕ) → 1 ≤ times h (positions (live x.image)) → times h r.before.pictured.held.index_blocks ≡ 0 → KeepsBlock x.image y.image h) where
   abbrev p : Pictures others r.before.plain x.image
   p = r.before.pictured
 
   abbrev q : Pictures others r.after.plain y.image
   q = r.after.pictured
 
-  pub kept_whole : (h : ℕ) → 1 ≤ times h (positions (live x.image)) → KeepsBlock x.image y.image h
-  kept_whole h some = by r.ties.changes
-    where
-      by : (y.image ≡ x.image) ⊎ Changes constants i r.before.pictured y.image → KeepsBlock x.image y.image h
-      by (inl e) = same_whole x.image y.image h e
-      by (inr c) =
-          let t = touches c.spot c.own c.touches in
-          whole x.image y.image h (subst (λ (z : Spot). KeepsBlockAround x.image y.image z.at z.bytes h) t.0 (c.kept h some (ap (times h) t.1)))
-
   pub tables : r.after.pictured.picture.table ≡ r.before.pictured.picture.table
-  tables = tables_stay constants others moves i x y success r
+  tables = tables_stay constants others moves i x y answer r
 
   in_names : (s : Picture) (a : Root) → IsAmong a s.names → IsAmong a (roots_of s)
   in_names s a j = among_left a s.names (s.uniques ++ (s.loose ++ frozen_roots s)) j
@@ -113,19 +116,20 @@ module _ (constants : List Constant) (others : List Root) (moves : List Move) (i
   in_loose s a j = among_right a s.names (s.uniques ++ (s.loose ++ frozen_roots s)) (among_right a s.uniques (s.loose ++ frozen_roots s) (among_left a s.loose (frozen_roots s) j))
 
   -- a named object stays as it is
-  same_name : changes_names i.operation ≡ false → (name : List ℕ) → root_named r.after.pictured.picture.names name ≡ root_named r.before.pictured.picture.names name
-  same_name e name = by (root_named r.after.pictured.picture.names name) (root_named r.before.pictured.picture.names name) refl refl (names_stay constants others moves i x y success r e name)
+  pub same_named : (name : List ℕ) → is_some (root_named r.after.pictured.picture.names name) ≡ is_some (root_named r.before.pictured.picture.names name)
+      → root_named r.after.pictured.picture.names name ≡ root_named r.before.pictured.picture.names name
+  same_named name as_before = by (root_named r.after.pictured.picture.names name) (root_named r.before.pictured.picture.names name) refl refl as_before
     where
       by : (o u : Option Root) → root_named r.after.pictured.picture.names name ≡ o → root_named r.before.pictured.picture.names name ≡ u
           → is_some (root_named r.after.pictured.picture.names name) ≡ is_some (root_named r.before.pictured.picture.names name) → o ≡ u
       by None None f g s = refl
       by None (Some c) f g s = absurd (let k : false ≡ true = sym (ap (λ (o : Option Root). is_some o) f) ∙ s ∙ ap (λ (o : Option Root). is_some o) g in cc)
       by (Some d) None f g s = absurd (let k : true ≡ false = sym (ap (λ (o : Option Root). is_some o) f) ∙ s ∙ ap (λ (o : Option Root). is_some o) g in cc)
-      by (Some d) (Some c) f g s = ap (λ (z : Root). Some z) (faced_one x.image y.image p.picture q.picture p.held q.held tables kept_whole c d (in_names p.picture c (looked_up name c p.picture.names g).0)
+      by (Some d) (Some c) f g s = ap (λ (z : Root). Some z) (faced_one x.image y.image p.picture q.picture p.held q.held tables kept c d (in_names p.picture c (looked_up name c p.picture.names g).0)
           (in_names q.picture d (looked_up name d q.picture.names f).0) (r.objects_stay.names name c d g f))
 
   pub names_same : changes_names i.operation ≡ false → r.after.pictured.picture.names ≡ r.before.pictured.picture.names
-  names_same e = names_listed q.picture.names p.picture.names q.held.laid_out.names.ascending p.held.laid_out.names.ascending (same_name e)
+  names_same e = names_listed q.picture.names p.picture.names q.held.laid_out.names.ascending p.held.laid_out.names.ascending (λ name. same_named name (names_stay constants others moves i x y answer r e name))
 
   -- a unique object stays as it is
   pub same_unique : (T : ℕ) → is_some (root_of_type r.after.pictured.picture.uniques T) ≡ is_some (root_of_type r.before.pictured.picture.uniques T)
@@ -137,7 +141,7 @@ module _ (constants : List Constant) (others : List Root) (moves : List Move) (i
       by None None f g s = refl
       by None (Some c) f g s = absurd (let k : false ≡ true = sym (ap (λ (o : Option Root). is_some o) f) ∙ s ∙ ap (λ (o : Option Root). is_some o) g in cc)
       by (Some d) None f g s = absurd (let k : true ≡ false = sym (ap (λ (o : Option Root). is_some o) f) ∙ s ∙ ap (λ (o : Option Root). is_some o) g in cc)
-      by (Some d) (Some c) f g s = ap (λ (z : Root). Some z) (faced_one x.image y.image p.picture q.picture p.held q.held tables kept_whole c d (in_uniques p.picture c (of_type p.picture.uniques T c g))
+      by (Some d) (Some c) f g s = ap (λ (z : Root). Some z) (faced_one x.image y.image p.picture q.picture p.held q.held tables kept c d (in_uniques p.picture c (of_type p.picture.uniques T c g))
           (in_uniques q.picture d (of_type q.picture.uniques T d f)) (r.objects_stay.uniques T c d g f))
 
   -- an object at the position of one that a register owned is that object
@@ -148,7 +152,7 @@ module _ (constants : List Constant) (others : List Root) (moves : List Move) (i
   plain_loose z a j = each_among IsPlain a (z.picture.uniques ++ z.picture.loose) (among_right a z.picture.uniques z.picture.loose j) z.held.laid_out.plain
 
   pub owned_stays : (c d : Root) → IsAmong c r.before.pictured.owned → IsAmong d r.after.pictured.owned → d.at ≡ c.at → d ≡ c
-  owned_stays c d j k at = placed_one x.image y.image p.picture q.picture p.held q.held tables kept_whole c d (in_loose p.picture c (owned_loose p c j)) (in_loose q.picture d (owned_loose q d k))
+  owned_stays c d j k at = placed_one x.image y.image p.picture q.picture p.held q.held tables kept c d (in_loose p.picture c (owned_loose p c j)) (in_loose q.picture d (owned_loose q d k))
       (plain_loose p c (owned_loose p c j)) (plain_loose q d (owned_loose q d k)) at
 
   pub owned_same : places_of r.after.pictured.owned ≡ places_of r.before.pictured.owned → r.after.pictured.owned ≡ r.before.pictured.owned

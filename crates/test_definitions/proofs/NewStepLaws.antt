@@ -1,13 +1,13 @@
 -- Two situations that clients can't tell apart stay so after NEW.
 use Rattle.std.specs.Prelude.{ℤ, pos, nat_abs}
-use Rattle.std.proofs.Common.{◌≡◌, ℕ, ◌+◌, ◌≤◌, ◌⊎◌, inl, inr, Bool, true, false, List, [], ◌∷◌, ◌++◌, length, Option, Some, None, refl, sym, ap, ◌∙◌, subst, arith}
+use Rattle.std.proofs.Common.{◌≡◌, ℕ, ◌≤◌, ◌⊎◌, inl, inr, Bool, true, false, List, [], ◌∷◌, ◌++◌, length, Option, Some, None, refl, sym, ap, ◌∙◌, subst, arith}
 use Rattle.std.specs.List.{AllByRecursion}
 use Rattle.seg_spec.specs.Bytes.{word}
-use Rattle.seg_spec.specs.Header.{next_word}
+use Rattle.seg_spec.specs.Header.{next_word, index_kind_word}
 use Rattle.seg_spec.specs.Types.{size}
 use Rattle.seg_spec.specs.Value.{Value, nil, cons, default_of}
 use Rattle.seg_spec.specs.Heap.{live}
-use Rattle.seg_spec.specs.Block.{block_of}
+use Rattle.seg_spec.specs.Block.{block_of, KeepsBlock}
 use Rattle.seg_spec.specs.Index.{Root}
 use Rattle.seg_spec.specs.Sound.{IsPlain, payload_of, times, positions}
 use Rattle.seg_spec.specs.Shared.{names_in, names_each, IsBelow, replaced}
@@ -32,15 +32,16 @@ use Rattle.test_definitions.proofs.ChangedPlaceRowLaws.{cells_of}
 use Rattle.test_definitions.proofs.DefaultCellLaws.{default_cells, one_names}
 use Rattle.test_definitions.proofs.FrozenApartLaws.{among_either}
 use Rattle.test_definitions.proofs.GrownImageLaws.{Grows, owner_in}
-use Rattle.test_definitions.proofs.GrownStepLaws.{both_grown}
+use Rattle.test_definitions.proofs.GrownStepLaws.{both_as_before, both_grown}
+use Rattle.test_definitions.proofs.IndexAlikeLaws.{index_long, index_is_long, NodesStay, whole_nodes}
 use Rattle.test_definitions.proofs.KeptRowLaws.{one, unchanged_alike, one_before, plain_before}
 use Rattle.test_definitions.proofs.ListedRootLaws.{types_listed}
 use Rattle.test_definitions.proofs.NewBlockLaws.{one_block}
-use Rattle.test_definitions.proofs.NewObjectLaws.{granted_lives, granted_stay, kept_whole, tables, names_same, same_unique, owned_loose, plain_loose, owned_stays}
+use Rattle.test_definitions.proofs.NewObjectLaws.{granted_lives, granted_stay, kept_beside, tables, names_same, same_unique, owned_loose, plain_loose, owned_stays}
 use Rattle.test_definitions.proofs.OwnerRegisterLaws.{register_with, set_cases, owner_seen, root_seen}
 use Rattle.test_definitions.proofs.OwningRegisterLaws.{owners, unfolded_owners, owned_places, changes_names, changes_uniques}
 use Rattle.test_definitions.proofs.PlaceStepLaws.{uniques_stay, kinds_stay}
-use Rattle.test_definitions.proofs.RootMemberLaws.{IsAmong, among_left, among_right, owns}
+use Rattle.test_definitions.proofs.RootMemberLaws.{IsAmong, among_left, among_right, index_live, owns}
 
 -- ---- the row
 
@@ -80,12 +81,18 @@ module _ (constants : List Constant) (others : List Root) (moves : List Move) (i
   touches : (spot : Spot) (own : List ℕ) → TouchesBy constants i row.before.pictured i.operation spot own → (spot ≡ nowhere) × (own ≡ [])
   touches spot own t = subst (λ o. TouchesBy constants i row.before.pictured o spot own) is t
 
+  kept_whole : (h : ℕ) → 1 ≤ times h (positions (live x.image)) → KeepsBlock x.image y.image h
+  kept_whole h some = kept_beside constants others moves i x y success row h some (λ spot own t. (let k = touches spot own t in (k.0, ap (times h) k.1)))
+
+  kept : (h : ℕ) → 1 ≤ times h (positions (live x.image)) → times h row.before.pictured.held.index_blocks ≡ 0 → KeepsBlock x.image y.image h
+  kept h some none = kept_whole h some
+
   names_stay_same : row.after.pictured.picture.names ≡ row.before.pictured.picture.names
-  names_stay_same = names_same constants others moves i x y row touches (ap changes_names is)
+  names_stay_same = names_same constants others moves i x y success row kept (ap changes_names is)
 
   uniques_stay_same : row.after.pictured.picture.uniques ≡ row.before.pictured.picture.uniques
   uniques_stay_same = types_listed 0 0 q.picture.uniques p.picture.uniques q.held.laid_out.uniques.rising p.held.laid_out.uniques.rising
-      (λ U. same_unique constants others moves i x y row touches U (uniques_stay constants others moves i x y success row (ap changes_uniques is) U))
+      (λ U. same_unique constants others moves i x y success row kept U (uniques_stay constants others moves i x y success row (ap changes_uniques is) U))
 
   state_after : (y.state ≡ set_register x.state i.a (Register.Owner (default_of x.state.types T) T)) × (owned_by (register x.state i.a) ≡ None)
   state_after = by row.row
@@ -112,7 +119,7 @@ module _ (constants : List Constant) (others : List Root) (moves : List Move) (i
       by (inr same) =
           let d = root_seen y.state y.image row.after r (replaced (meaning_in (word x.image next_word) row.before.pictured.picture) seen.0) c.type (same ∙ seen.1) in
           let at = row.owners_stay r c d.0 e d.1 in
-          let one_root = owned_stays constants others moves i x y row touches c d.0 (of_register row.before.plain.registers p.owned r c e) (of_register row.after.plain.registers q.owned r d.0 d.1) at in
+          let one_root = owned_stays constants others moves i x y success row kept c d.0 (of_register row.before.plain.registers p.owned r c e) (of_register row.after.plain.registers q.owned r d.0 d.1) at in
           d.1 ∙ ap (λ (z : Root). Some z) one_root
 
   -- what is known of a new object
@@ -141,9 +148,9 @@ module _ (constants : List Constant) (others : List Root) (moves : List Move) (i
           let both : Register.Owner (replaced (meaning_in (word y.image next_word) row.after.pictured.picture) seen.0) d.type ≡ Register.Owner (default_of x.state.types T) T = sym seen.1 ∙ k.1 in
           let types : d.type ≡ T = cc in
           let values : replaced (meaning_in (word y.image next_word) row.after.pictured.picture) seen.0 ≡ default_of x.state.types T = cc in
-          let loose = owned_loose constants others moves i x y row touches q d (of_register row.after.plain.registers q.owned r d e) in
+          let loose = owned_loose constants others moves i x y success row kept q d (of_register row.after.plain.registers q.owned r d e) in
           let there = among_right d q.picture.names (q.picture.uniques ++ q.picture.loose) (among_right d q.picture.uniques q.picture.loose loose) in
-          let plain = plain_loose constants others moves i x y row touches q d loose in
+          let plain = plain_loose constants others moves i x y success row kept q d loose in
           let below = cells_of (IsBelow (word y.image next_word) q.picture.frozen) (owners_in q.picture) d q.counted.counted.named there in
           let names : names_each d.values ≡ names_in seen.0 ++ [] = ap names_each seen.2 ∙ one_names seen.0 in
           let bare = default_cells q seen.0 x.state.types T (each_left (IsBelow (word y.image next_word) q.picture.frozen) (names_in seen.0) []
@@ -175,19 +182,31 @@ module _ (constants : List Constant) (others : List Root) (moves : List Move) (i
   gives_are = subst (λ o. ReturnsBy constants i row.before.pictured o grants.gives) is grants.returned
 
   loose_in : {s : State} {bytes : List ℕ} (z : Pictures others s bytes) (c : Root) → IsAmong c z.owned → IsAmong c (owners_in z.picture)
-  loose_in z c j = among_right c z.picture.names (z.picture.uniques ++ z.picture.loose) (among_right c z.picture.uniques z.picture.loose (owned_loose constants others moves i x y row touches z c j))
+  loose_in z c j = among_right c z.picture.names (z.picture.uniques ++ z.picture.loose) (among_right c z.picture.uniques z.picture.loose (owned_loose constants others moves i x y success row kept z c j))
 
-  grows : Grows x.image y.image row.before.pictured.picture row.after.pictured.picture News
+  kinds : word y.image index_kind_word ≡ word x.image index_kind_word
+  kinds = kinds_stay constants others moves i x y success row
+
+  nodes_stay : NodesStay x.image y.image row.before.pictured.held.index_blocks
+  nodes_stay = record {
+    kinds = kinds;
+    kept = whole_nodes x.image y.image p.picture p.held p.held.index_blocks (index_live x.image p.picture p.held) (λ h some. kept_whole h (index_live x.image p.picture p.held h some));
+    stay = λ tree h some. granted_stay x.image y.image (size row.before.plain.types T) grants.asks grants.gives grants.blocks asks_are gives_are grants.granted grants.left h (index_live x.image p.picture p.held h some);
+  }
+
+  long_now : length row.before.pictured.held.index_blocks ≡ index_long (word y.image index_kind_word) (length row.after.pictured.picture.names)
+  long_now = index_is_long x.image p.picture p.held ∙ (λ j. index_long (sym kinds j) (length (sym names_stay_same j)))
+
+  grows : Grows x.image y.image row.before.pictured.picture row.after.pictured.picture row.before.pictured.held.index_blocks News
   grows = record {
-    tables = tables constants others moves i x y row touches;
-    kept = kept_whole constants others moves i x y row touches;
-    stay_live = granted_stay x.image y.image (size row.before.plain.types T) grants.asks grants.gives grants.blocks asks_are gives_are grants.granted grants.left;
+    tables = tables constants others moves i x y success row kept;
+    kept = kept;
+    entries = p.held.index_blocks;
+    long = long_now;
     lives = λ a n h. (
         let k = new_one n.0 a n.1 n.2 in
-        granted_lives x.image y.image (size row.before.plain.types T) a.at grants.asks grants.gives grants.blocks asks_are gives_are grants.granted grants.left k.gets h
-        ∙ ap (λ m. times h (positions (live x.image)) + times h (block_of m ∷ [])) (sym k.payload));
-    kinds = kinds_stay constants others moves i x y success row;
-    as_many = ap length names_stay_same;
+        let one = granted_lives x.image y.image (size row.before.plain.types T) a.at grants.asks grants.gives grants.blocks asks_are gives_are grants.granted grants.left k.gets h in
+        omega (arith, one, ap (λ m. times h (block_of m ∷ [])) k.payload));
     in_now = λ a n. (new_one n.0 a n.1 n.2).is_in;
     forth = forth;
     back = back;
@@ -239,8 +258,8 @@ module _ (constants : List Constant) (others : List Root) (moves : List Move) (i
   one_owned c d j k at =
       let o = owns y.image q.picture q.held c q.held.roots (owner_in q.picture c (loose_in q c j)) in
       let m = owns y.image q.picture q.held d q.held.roots (owner_in q.picture d (loose_in q d k)) in
-      plain-one y.image q.picture.table d c m.its o.its at (plain_loose constants others moves i x y row touches q d (owned_loose constants others moves i x y row touches q d k))
-      (plain_loose constants others moves i x y row touches q c (owned_loose constants others moves i x y row touches q c j)) m.holds_it o.holds_it
+      plain-one y.image q.picture.table d c m.its o.its at (plain_loose constants others moves i x y success row kept q d (owned_loose constants others moves i x y success row kept q d k))
+      (plain_loose constants others moves i x y success row kept q c (owned_loose constants others moves i x y success row kept q c j)) m.holds_it o.holds_it
 
 -- ---- both images
 
@@ -323,7 +342,7 @@ module _ (constants : List Constant) (others : List Root) (moves : List Move) (i
   NewsOf c = (n : ℕ) × (root_of_register r.before.plain.registers r.before.pictured.owned n ≡ None) × (root_of_register r.after.plain.registers r.after.pictured.owned n ≡ Some c)
 
   -- both images have the same new objects
-  grows_too : Grows z.image w.image q.before.pictured.picture q.after.pictured.picture NewsOf
+  grows_too : Grows z.image w.image q.before.pictured.picture q.after.pictured.picture q.before.pictured.held.index_blocks NewsOf
   grows_too =
       let g = grows constants others moves i is z w q in
       let theirs : (c : Root) → NewsOf c → (n : ℕ) × (root_of_register q.before.plain.registers q.before.pictured.owned n ≡ None) × (root_of_register q.after.plain.registers q.after.pictured.owned n ≡ Some c) =
@@ -331,10 +350,9 @@ module _ (constants : List Constant) (others : List Root) (moves : List Move) (i
       record {
         tables = g.tables;
         kept = g.kept;
-        stay_live = g.stay_live;
+        entries = g.entries;
+        long = g.long;
         lives = λ a n. g.lives a (theirs a n);
-        kinds = g.kinds;
-        as_many = g.as_many;
         in_now = λ a n. g.in_now a (theirs a n);
         forth = g.forth;
         back = λ c j. elim (g.back c j) [ inl k ↦ inl (k.0, before_same k.0 ∙ k.1, sym (after_same k.0) ∙ k.2) | inr k ↦ inr k ];
@@ -344,9 +362,10 @@ module _ (constants : List Constant) (others : List Root) (moves : List Move) (i
   both_new : StaysAlike others success success y w
   both_new =
       let before = one_before constants others moves i x z y w success success stand r q in
-      both_grown constants others moves i x z y w stand r q NewsOf (grows constants others moves i is x y r) grows_too
+      both_grown constants others moves i x z y w success stand r q NewsOf (grows constants others moves i is x y r) grows_too
       (names_stay_same constants others moves i is x y r ∙ before.same.names ∙ sym (names_stay_same constants others moves i is z w q))
       (uniques_stay_same constants others moves i is x y r ∙ before.same.uniques ∙ sym (uniques_stay_same constants others moves i is z w q)) (sym owned_as_one)
+      (both_as_before constants others moves i x z y w success stand r q (nodes_stay constants others moves i is x y r) (nodes_stay constants others moves i is z w q) (names_stay_same constants others moves i is x y r))
 
 pub new_alike : (constants : List Constant) (others : List Root) (moves : List Move) (i : Instruction) → i.operation ≡ Operation.New → (x z y w : Situation) (first second : Answer) → StandAlike others x z
     → RowOn constants others moves i x first y → RowOn constants others moves i z second w → StaysAlike others first second y w

@@ -131,7 +131,7 @@ module _ (at : ℕ) where
   among_block r (x ∷ names) (inr i) = (let n = among_block r names i in let more = times-more (block_of r.at) (block_of x.at) (map (λ (z : Root). block_of z.at) names) in omega arith)
 
   -- a named object has one entry, in the same node of both images
-  one_node : (first second ns : List ℕ) (names : List Root) (a b : ℕ) → AreEntries first (map (λ p. p + tree_words) ns) names → AreEntries second (map (λ p. p + tree_words) ns) names
+  pub one_node : (first second ns : List ℕ) (names : List Root) (a b : ℕ) → AreEntries first (map (λ p. p + tree_words) ns) names → AreEntries second (map (λ p. p + tree_words) ns) names
       → ((h : ℕ) → times h (map (λ (x : Root). block_of x.at) names) ≤ 1) → In a ns → In b ns → target first (a + tree_words) ≡ Some at → target second (b + tree_words) ≡ Some at → a ≡ b
   one_node first second [] names a b e g once i j s t = absurd i
   one_node first second (x ∷ ns) [] a b e g once i j s t = absurd e

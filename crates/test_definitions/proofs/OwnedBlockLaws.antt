@@ -42,8 +42,8 @@ use Rattle.test_definitions.proofs.RootMemberLaws.{IsAmong, among_left, among_ri
 
 pub record FlatIndex (bytes : List ℕ) (p : Picture) (held : IsHeld bytes p) : Type 0 where
   pub tags : AllByRecursion (λ h. tag_at bytes h ≡ tag_of Kind.index_buffer 0) held.index_blocks
-  none : length p.names ≡ 0 → length held.index_blocks ≡ 0
-  some : 1 ≤ length p.names → length held.index_blocks ≡ 1
+  pub none : length p.names ≡ 0 → length held.index_blocks ≡ 0
+  pub some : 1 ≤ length p.names → length held.index_blocks ≡ 1
 
 pub flat_index : (bytes : List ℕ) (p : Picture) (held : IsHeld bytes p) → word bytes index_kind_word ≡ 0 → FlatIndex bytes p held
 flat_index bytes p held flat = by (word bytes index_kind_word) flat held.laid_out.names.index held.laid_out.names.opens held.laid_out.names.blocks_are (as_many bytes p held)
@@ -87,7 +87,7 @@ frozen_member a [] i = absurd i
 frozen_member a (f ∷ fs) (inl e) = (f, inl refl, e)
 frozen_member a (f ∷ fs) (inr i) = (let r = frozen_member a fs i in (r.0, inr r.1, r.2))
 
-owned_rest : (bytes : List ℕ) (p : Picture) (h : ℕ) {roots : List Root} {all : List ℕ} → HoldsRoots bytes p.table roots all → (c : Root) → IsAmong c roots → {ys : List ℕ} → HoldsRoot bytes p.table c ys → times h ys ≤ times h all
+pub owned_rest : (bytes : List ℕ) (p : Picture) (h : ℕ) {roots : List Root} {all : List ℕ} → HoldsRoots bytes p.table roots all → (c : Root) → IsAmong c roots → {ys : List ℕ} → HoldsRoot bytes p.table c ys → times h ys ≤ times h all
 owned_rest bytes p h holds_no_root c i y = absurd i
 owned_rest bytes p h (holds_more_roots {root = root} {blocks = bs} {rest = cs} k ks) c (inl e) {ys = ys} y = omega
     (arith, ap (times h) (holds_one bytes p.table root (subst (λ (r : Root). HoldsRoot bytes p.table r ys) e y) k), times-append h bs cs)

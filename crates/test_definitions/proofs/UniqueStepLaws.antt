@@ -5,11 +5,11 @@ use Rattle.std.specs.List.{AllByRecursion}
 use Rattle.std.proofs.lemmas.Bool.{cases_eq}
 use Rattle.std.proofs.lemmas.Bool.Decides.{nat_tests}
 use Rattle.seg_spec.specs.Bytes.{word}
-use Rattle.seg_spec.specs.Header.{next_word}
+use Rattle.seg_spec.specs.Header.{next_word, index_kind_word}
 use Rattle.seg_spec.specs.Types.{size}
 use Rattle.seg_spec.specs.Value.{Value, nil, cons, nth, default_of}
 use Rattle.seg_spec.specs.Heap.{live}
-use Rattle.seg_spec.specs.Block.{block_of}
+use Rattle.seg_spec.specs.Block.{block_of, KeepsBlock}
 use Rattle.seg_spec.specs.Index.{Root, root_of_type}
 use Rattle.seg_spec.specs.Sound.{IsPlain, payload_of, times, positions}
 use Rattle.seg_spec.specs.Shared.{names_in, names_each, IsBelow, replaced}
@@ -33,14 +33,15 @@ use Rattle.test_definitions.proofs.ChangedPlaceRowLaws.{cells_of}
 use Rattle.test_definitions.proofs.DefaultCellLaws.{default_cells, one_names}
 use Rattle.test_definitions.proofs.FrozenApartLaws.{among_either}
 use Rattle.test_definitions.proofs.GrownImageLaws.{Grows, owner_in}
-use Rattle.test_definitions.proofs.GrownStepLaws.{both_grown}
+use Rattle.test_definitions.proofs.GrownStepLaws.{both_as_before, both_grown}
+use Rattle.test_definitions.proofs.IndexAlikeLaws.{index_long, index_is_long, NodesStay, whole_nodes}
 use Rattle.test_definitions.proofs.KeptRowLaws.{owned_kept, one, unchanged_alike, one_before, plain_before, idle_alike}
 use Rattle.test_definitions.proofs.ListedRootLaws.{types_listed, found_of_type, type_is}
 use Rattle.test_definitions.proofs.NewBlockLaws.{one_block}
-use Rattle.test_definitions.proofs.NewObjectLaws.{granted_lives, kept_whole, tables, names_same, same_unique, owned_same}
+use Rattle.test_definitions.proofs.NewObjectLaws.{granted_lives, kept_beside, tables, names_same, same_unique, owned_same}
 use Rattle.test_definitions.proofs.OwningRegisterLaws.{moves_owners, changes_names}
 use Rattle.test_definitions.proofs.PlaceStepLaws.{unique_there, kinds_stay}
-use Rattle.test_definitions.proofs.RootMemberLaws.{IsAmong, each_among, among_left, among_right, owns}
+use Rattle.test_definitions.proofs.RootMemberLaws.{IsAmong, each_among, among_left, among_right, index_live, owns}
 
 abbrev pub MakesUnique : Operation → Type 0
 MakesUnique o = (o ≡ Operation.MakeUnique) ⊎ (o ≡ Operation.FindOrMakeUnique)
@@ -109,11 +110,17 @@ module _ (constants : List Constant) (others : List Root) (moves : List Move) (i
   touches : (spot : Spot) (own : List ℕ) → TouchesBy constants i r.before.pictured i.operation spot own → (spot ≡ nowhere) × (own ≡ [])
   touches spot own t = by_two (λ o. TouchesBy constants i r.before.pictured o spot own → (spot ≡ nowhere) × (own ≡ [])) i.operation which (λ k. k) (λ k. k) t
 
+  kept_whole : (h : ℕ) → 1 ≤ times h (positions (live x.image)) → KeepsBlock x.image y.image h
+  kept_whole h some = kept_beside constants others moves i x y success r h some (λ spot own t. (let k = touches spot own t in (k.0, ap (times h) k.1)))
+
+  kept : (h : ℕ) → 1 ≤ times h (positions (live x.image)) → times h r.before.pictured.held.index_blocks ≡ 0 → KeepsBlock x.image y.image h
+  kept h some none = kept_whole h some
+
   names_stay_same : r.after.pictured.picture.names ≡ r.before.pictured.picture.names
-  names_stay_same = names_same constants others moves i x y r touches (by_two (λ o. changes_names o ≡ false) i.operation which refl refl)
+  names_stay_same = names_same constants others moves i x y success r kept (by_two (λ o. changes_names o ≡ false) i.operation which refl refl)
 
   owned_stay_same : r.after.pictured.owned ≡ r.before.pictured.owned
-  owned_stay_same = owned_same constants others moves i x y r touches
+  owned_stay_same = owned_same constants others moves i x y success r kept
       (r.owned_after ∙ owned_kept constants others moves i x y success r (by_two (λ o. moves_owners o success ≡ false) i.operation which refl refl) ∙ sym r.owned_before)
 
   state_absent : x.state.uniques T ≡ None
@@ -138,7 +145,7 @@ module _ (constants : List Constant) (others : List Root) (moves : List Move) (i
   beside : (U : ℕ) → U ≢ T → root_of_type r.after.pictured.picture.uniques U ≡ root_of_type r.before.pictured.picture.uniques U
   beside U other =
       let states : y.state.uniques U ≡ x.state.uniques U = ap (λ (f : Uniques). f U) state_after ∙ ap (λ b. if b then Some (default_of x.state.types T) else x.state.uniques U) (other_number U T other) in
-      same_unique constants others moves i x y r touches U
+      same_unique constants others moves i x y success r kept U
       (sym (unique_there constants others moves i x y success r y.state y.image r.after U) ∙ ap (λ (o : Option Value). is_some o) states ∙ unique_there constants others moves i x y success r x.state x.image r.before U)
 
   record Made : Type 0 where
@@ -203,14 +210,26 @@ module _ (constants : List Constant) (others : List Root) (moves : List Move) (i
   loose_same : r.after.pictured.picture.loose ≡ r.before.pictured.picture.loose
   loose_same = q.loose ∙ ap (λ rs. others ++ rs) owned_stay_same ∙ sym p.loose
 
-  grows : Grows x.image y.image r.before.pictured.picture r.after.pictured.picture (λ c. c ≡ made_object.object)
+  kinds : word y.image index_kind_word ≡ word x.image index_kind_word
+  kinds = kinds_stay constants others moves i x y success r
+
+  nodes_stay : NodesStay x.image y.image r.before.pictured.held.index_blocks
+  nodes_stay = record {
+    kinds = kinds;
+    kept = whole_nodes x.image y.image p.picture p.held p.held.index_blocks (index_live x.image p.picture p.held) (λ h some. kept_whole h (index_live x.image p.picture p.held h some));
+    stay = λ tree h some. omega (arith, index_live x.image p.picture p.held h some, lives h);
+  }
+
+  long_now : length r.before.pictured.held.index_blocks ≡ index_long (word y.image index_kind_word) (length r.after.pictured.picture.names)
+  long_now = index_is_long x.image p.picture p.held ∙ (λ j. index_long (sym kinds j) (length (sym names_stay_same j)))
+
+  grows : Grows x.image y.image r.before.pictured.picture r.after.pictured.picture r.before.pictured.held.index_blocks (λ c. c ≡ made_object.object)
   grows = record {
-    tables = tables constants others moves i x y r touches;
-    kept = kept_whole constants others moves i x y r touches;
-    stay_live = λ h some. omega (arith, some, lives h);
-    lives = λ a e h. lives h ∙ ap (λ (c : Root). times h (positions (live x.image)) + times h (block_of (payload_of c) ∷ [])) (sym e);
-    kinds = kinds_stay constants others moves i x y success r;
-    as_many = ap length names_stay_same;
+    tables = tables constants others moves i x y success r kept;
+    kept = kept;
+    entries = p.held.index_blocks;
+    long = long_now;
+    lives = λ a e h. omega (arith, lives h, ap (λ (c : Root). times h (block_of (payload_of c) ∷ [])) e);
     in_now = λ a e. subst (λ (c : Root). IsAmong c (owners_in r.after.pictured.picture)) (sym e) is_in;
     forth = forth;
     back = back;
@@ -292,8 +311,10 @@ module _ (constants : List Constant) (others : List Root) (moves : List Move) (i
       ] in
       let uniques = types_listed 0 0 r.after.pictured.picture.uniques q.after.pictured.picture.uniques r.after.pictured.held.laid_out.uniques.rising q.after.pictured.held.laid_out.uniques.rising
       (λ U. each U (cases_eq U (nat_abs i.number))) in
-      both_grown constants others moves i x z y w stand r q (λ c. c ≡ a.object) (grows constants others moves i which x y r none)
-      (subst (λ (o : Root). Grows z.image w.image q.before.pictured.picture q.after.pictured.picture (λ c. c ≡ o)) same (grows constants others moves i which z w q none_too)) names uniques owned
+      both_grown constants others moves i x z y w success stand r q (λ c. c ≡ a.object) (grows constants others moves i which x y r none)
+      (subst (λ (o : Root). Grows z.image w.image q.before.pictured.picture q.after.pictured.picture q.before.pictured.held.index_blocks (λ c. c ≡ o)) same (grows constants others moves i which z w q none_too)) names uniques owned
+      (both_as_before constants others moves i x z y w success stand r q (nodes_stay constants others moves i which x y r none) (nodes_stay constants others moves i which z w q none_too)
+      (names_stay_same constants others moves i which x y r none))
 
   succeeds : (second : Answer) → StandAlike others x z → RowOn constants others moves i x success y → RowOn constants others moves i z second w → StaysAlike others success second y w
   succeeds second stand r q = by (root_of_type r.before.pictured.picture.uniques (nat_abs i.number)) refl which
