@@ -85,6 +85,7 @@ pub mod NewObjectLaws
 pub mod UniqueStepLaws
 pub mod NewStepLaws
 pub mod DropStepLaws
+pub mod MatchedPictureLaws
 pub mod AlikeRowLaws
 pub mod Several
 pub mod Whole
