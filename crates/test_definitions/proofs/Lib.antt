@@ -86,6 +86,7 @@ pub mod UniqueStepLaws
 pub mod NewStepLaws
 pub mod DropStepLaws
 pub mod MatchedPictureLaws
+pub mod ApartPlaceLaws
 pub mod AlikeRowLaws
 pub mod Several
 pub mod Whole
