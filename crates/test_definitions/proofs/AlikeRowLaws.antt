@@ -20,7 +20,7 @@ use Rattle.test_definitions.proofs.NewStepLaws.{new_alike}
 use Rattle.test_definitions.proofs.DropStepLaws.{drop_alike}
 use Rattle.test_definitions.proofs.PopFrontStepLaws.{pop_front_alike}
 use Rattle.test_definitions.proofs.MatchedPictureLaws.{matched_alike}
-use Rattle.test_definitions.proofs.ApartPlaceLaws.{now_below}
+use Rattle.test_definitions.proofs.ApartRowLaws.{cells_below}
 
 module _ (constants : List Constant) (others : List Root) (moves : List Move) (i : Instruction) (x z y w : Situation) (first second : Answer) (stand : StandAlike others x z) (r : RowOn constants others moves i x first y)
     (q : RowOn constants others moves i z second w) where

@@ -87,6 +87,7 @@ pub mod NewStepLaws
 pub mod DropStepLaws
 pub mod MatchedPictureLaws
 pub mod ApartPlaceLaws
+pub mod ApartRowLaws
 pub mod AlikeRowLaws
 pub mod Several
 pub mod Whole
