@@ -33,7 +33,7 @@ set_keeps s a x (Origin.Owned r) y free e = elim (register_set s a r x) [
 ]
 
 -- the value that was put is at the path, also after another register was set
-put_there : (s : State) (p : Path) (old new : Value) (a : ℕ) (x : Register) → path_value s p ≡ Some old → owned_by (register (put_at s p new) a) ≡ None → path_value (set_register (put_at s p new) a x) p ≡ Some new
+pub put_there : (s : State) (p : Path) (old new : Value) (a : ℕ) (x : Register) → path_value s p ≡ Some old → owned_by (register (put_at s p new) a) ≡ None → path_value (set_register (put_at s p new) a x) p ≡ Some new
 put_there s p old new a x e free =
     let root = bind_some (at_origin s p.origin) (λ root. value_at root.0 p.selectors) old e in
     let then_is = with_value_at p.selectors new root.0.0 in

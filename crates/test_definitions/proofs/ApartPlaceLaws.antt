@@ -6,7 +6,7 @@ use Rattle.std.specs.List.{AllByRecursion}
 use Rattle.seg_spec.specs.Bytes.{word}
 use Rattle.seg_spec.specs.Header.{allocator_word, next_word}
 use Rattle.seg_spec.specs.Types.{Table, size}
-use Rattle.seg_spec.specs.Value.{Value, Values, count, with_value_at}
+use Rattle.seg_spec.specs.Value.{Value, Values, count, nth, value_at, with_value_at}
 use Rattle.seg_spec.specs.Heap.{live, units_at, tag_at}
 use Rattle.seg_spec.specs.Block.{block_of, KeepsBlock}
 use Rattle.seg_spec.specs.Reads.{Place, Holds, HoldsEach, items}
@@ -21,7 +21,7 @@ use Rattle.seg_spec.specs.Roots.{RootComesApart, PartComesApart, item_of, with_i
 use Rattle.seg_spec.proofs.Heap.LiveBlockLaws.{OneOrApart, times-append, times-same, there, each_there, live-apart}
 use Rattle.seg_spec.proofs.Values.OneValueLaws.{Holds-one, HoldsEach-one}
 use Rattle.seg_spec.proofs.Values.PartPositionLaws.{separate_parts}
-use Rattle.seg_spec.proofs.Values.PathSplitLaws.{middle, split}
+use Rattle.seg_spec.proofs.Values.PathSplitLaws.{middle, split, nth-append, count_is}
 use Rattle.seg_spec.proofs.Values.PlaceFrameLaws.{each_left, each_right}
 use Rattle.seg_spec.proofs.Values.PutLaws.{kept_whole}
 use Rattle.seg_spec.proofs.Images.RootFrameLaws.{HoldsRoot-kept}
@@ -153,6 +153,7 @@ module _ {others : List Root} {s : State} {old : List ℕ} (p : Pictures others 
     pub holds_now : Holds new p.picture.table place now news
     pub fits : AllByRecursion (Fits new) news
     pub values_are : vs ≡ (with_item l.root l.item (with_value_at path.selectors now)).values
+    pub reached : (whole : Value) → nth vs l.item ≡ Some whole → value_at whole path.selectors ≡ Some now
 
   pub now_there : {vs : Values} {blocks : List ℕ} → HoldsEach new p.picture.table (items p.picture.table l.root.at l.root.type (count l.root.values)) vs blocks → AllByRecursion (Fits new) blocks → NowThere vs
   now_there {vs = vs} {blocks = blocks} here fit =
@@ -163,6 +164,8 @@ module _ {others : List Root} {s : State} {old : List ℕ} (p : Pictures others 
       (each_there (KeepsBlockAround old new place.at (size p.picture.table place.type)) (part.left ++ part.right) (λ b some. around_root b (omega (arith, its_are b, some)) (omega (arith, its_are b, some, root_live b, one_at_most b)))) cut.holds_it in
       let same = count-change_nth (Some l.item) (with_value_at path.selectors cut.value) l.root.values in
       let values = subst (λ k. HoldsEach new p.picture.table (items p.picture.table l.root.at l.root.type k) (with_item l.root l.item (with_value_at path.selectors cut.value)).values then_is.inside) same then_is.values in
+      let index : l.item ≡ count m.left = sym m.at_is ∙ count_is new p.picture.table m.lefts in
+      let nth_is : nth vs l.item ≡ Some m.value = (λ j. nth (m.values_are j) (index j)) ∙ nth-append m.left m.right m.value in
       let inner = each_left (Fits new) m.zs m.ys (each_right (Fits new) m.xs (m.zs ++ m.ys) (subst (AllByRecursion (Fits new)) m.blocks_are fit)) in
       record {
         now = cut.value;
@@ -170,6 +173,7 @@ module _ {others : List Root} {s : State} {old : List ℕ} (p : Pictures others 
         holds_now = cut.holds_it;
         fits = each_left (Fits new) cut.its cut.right (each_right (Fits new) cut.left (cut.its ++ cut.right) (subst (AllByRecursion (Fits new)) cut.blocks_are inner));
         values_are = (HoldsEach-one new p.picture.table here values).0;
+        reached = λ whole e. (let same : m.value ≡ whole = (let f : Some m.value ≡ Some whole = sym nth_is ∙ e in cc) in subst (λ v. value_at v path.selectors ≡ Some cut.value) same cut.value_is);
       }
 
   -- its shared cells are those of the new value, and some of those that it had

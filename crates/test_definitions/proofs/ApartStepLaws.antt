@@ -25,7 +25,7 @@ use Rattle.test_definitions.specs.Alike.{AlikeAt, AlikeEach, AlikeRoot, AreAlike
 use Rattle.test_definitions.proofs.AlikeChangeLaws.{stays_alike, among_as, value_kept}
 use Rattle.test_definitions.proofs.AlikePictureLaws.{SameEntries, entry_kept, entries_alike}
 use Rattle.test_definitions.proofs.AlikeRootLaws.{both, roots_at}
-use Rattle.test_definitions.proofs.ApartPlaceLaws.{KeepsApart, Persisting, own_stays, each_staying}
+use Rattle.test_definitions.proofs.ApartPlaceLaws.{KeepsApart, Persisting, own_stays, each_staying, now_there}
 use Rattle.test_definitions.proofs.ApartRowLaws.{content_stays, blocks_kept, held_before, blocks_live}
 use Rattle.test_definitions.proofs.FrozenApartLaws.{owner_in_roots}
 use Rattle.test_definitions.proofs.FrozenContentLaws.{inside_kept, value_same}
@@ -120,7 +120,8 @@ module _ {others : List Root} {s s1 t1 : State} {places first second new other :
 
   module _ (path : Path) (place : Place) (l : LeadsInImage p path place) (m : LeadsInImage q path place) (found : Value × ℕ) (begins : at_origin s path.origin ≡ Some found) {v v' : Value} (its its' : List ℕ)
       (hx : Holds first p.picture.table place v its) (hz : Holds second q.picture.table place v' its') (moved moved' : List ℕ) (Stays StaysToo : Root → Type 0) (kx : KeepsApart p new place its moved Stays)
-      (kz : KeepsApart q other place its' moved' StaysToo) (ox : Stays l.root) (oz : StaysToo m.root) (inner : AlikeAt new other p.picture.table place) where
+      (kz : KeepsApart q other place its' moved' StaysToo) (ox : Stays l.root) (oz : StaysToo m.root)
+      (inner : (a b : Value) (xs ys : List ℕ) → Holds new p.picture.table place a xs → AllByRecursion (Fits new) xs → Holds other p.picture.table place b ys → AllByRecursion (Fits other) ys → AlikeAt new other p.picture.table place) where
     -- both paths begin at one root
     begin_one : (l.root ≡ m.root) × (l.item ≡ m.item)
     begin_one = (
@@ -149,8 +150,12 @@ module _ {others : List Root} {s s1 t1 : State} {places first second new other :
         by (inl e) (inl f) =
             let h' = subst (λ (x : Root). HoldsEach new p.picture.table (items p.picture.table x.at x.type (count x.values)) vs xs) e h in
             let k' = subst (λ (x : Root). HoldsEach other p.picture.table (items p.picture.table x.at x.type (count x.values)) ws ys) e k in
+            let n = now_there p new path place l found begins its hx moved Stays kx ox h' fits in
+            let there_too = subst (λ (z : Table). HoldsEach other z (items z l.root.at l.root.type (count l.root.values)) ws ys) (sym one_table) k' in
+            let o = now_there q other path place m found begins its' hz moved' StaysToo kz oz (subst (λ (x : Root). HoldsEach other q.picture.table (items q.picture.table x.at x.type (count x.values)) ws ys) begin_one.0 there_too) fits_too in
+            let it = inner n.now o.now n.news o.news n.holds_now n.fits (subst (λ (z : Table). Holds other z place o.now o.news) one_table o.holds_now) o.fits in
             subst (AlikeRoot new other p.picture.table) (sym e)
-            (stays_alike first new second other p.picture.table l.root l.item path.selectors place (subst (AlikeRoot first second p.picture.table) e was) stays_first stays_second inner h' fits k' fits_too)
+            (stays_alike first new second other p.picture.table l.root l.item path.selectors place (subst (AlikeRoot first second p.picture.table) e was) stays_first stays_second it h' fits k' fits_too)
         by (inl e) (inr o) = absurd (o.other (e ∙ begin_one.0))
         by (inr o) (inl f) = absurd (o.other (f ∙ sym begin_one.0))
         by (inr o) (inr u) =

@@ -46,7 +46,7 @@ found_same None (Some b) e f = cc
 found_same (Some a) None e f = cc
 found_same (Some a) (Some b) e f = ap (λ (x : Root). Some x) (f a b refl refl)
 
-some_too : (o u : Option Root) → is_some o ≡ is_some u → (a : Root) → o ≡ Some a → (b : Root) × (u ≡ Some b)
+pub some_too : (o u : Option Root) → is_some o ≡ is_some u → (a : Root) → o ≡ Some a → (b : Root) × (u ≡ Some b)
 some_too None u e a f = cc
 some_too (Some x) None e a f = cc
 some_too (Some x) (Some b) e a f = (b, refl)
