@@ -149,7 +149,7 @@ module _ (bytes : List ℕ) (pic : Picture) (held : IsHeld bytes pic) (front bac
 
 -- ---- the row
 
-owner_of : (x : Register) (v : Value) (t : ℕ) → owned_by x ≡ Some (v, t) → x ≡ Register.Owner v t
+pub owner_of : (x : Register) (v : Value) (t : ℕ) → owned_by x ≡ Some (v, t) → x ≡ Register.Owner v t
 owner_of Register.Undefined v t e = cc
 owner_of (Register.Int k) v t e = cc
 owner_of (Register.Reference p) v t e = cc

@@ -92,6 +92,14 @@ pub mod NewStepLaws
 pub mod MakeRowLaws
 pub mod MakeStepLaws
 pub mod DropStepLaws
+pub mod MatchedPictureLaws
+pub mod ApartPlaceLaws
+pub mod ApartRowLaws
+pub mod ApartStepLaws
+pub mod MovedStepLaws
+pub mod OwnCellLaws
+pub mod TakeStepLaws
+pub mod PutStepLaws
 pub mod AlikeRowLaws
 pub mod Several
 pub mod Whole

@@ -81,7 +81,7 @@ module _ (constants : List Constant) (i : Instruction) {others : List Root} (z :
   abbrev m : ℕ → Value
   m = meaning_in (word bytes next_word) p.pictured.picture
 
-  path_then : (path : Path) → path_of p.plain i.b ≡ Some path → path_of z i.b ≡ Some path
+  pub path_then : (path : Path) → path_of p.plain i.b ≡ Some path → path_of z i.b ≡ Some path
   path_then path e = ap (λ (t : State). path_of t i.b) p.trees ∙ ap path_in (register_same m p.plain i.b) ∙ path_unfolded m (register p.plain i.b) path e
 
   pub refers_to : at_place i.operation ≡ true → RefersTo p.plain i.b

@@ -96,6 +96,8 @@ is_settled Operation.PopFront = true
 is_settled Operation.DeleteKey = true
 is_settled Operation.Clear = true
 is_settled Operation.Share = true
+is_settled Operation.Put = true
+is_settled Operation.Take = true
 is_settled operation = not (writes_image operation)
 
 module _ (constants : List Constant) (i : Instruction) {others : List Root} {s : State}
