@@ -5,16 +5,15 @@ use Rattle.std.specs.Prelude.{◌==◌, if◌then◌else◌, ℤ, nat_abs, is_so
 use Rattle.std.specs.Option.{option_map_or}
 use Rattle.std.proofs.lemmas.Bool.Decides.{nat_tests}
 use Rattle.client_spec.proofs.TypedStates.StateLaws.{same_name_is}
-use Rattle.seg_spec.specs.Value.{Value, Values, nil, cons, count, Selector, Full}
+use Rattle.seg_spec.specs.Value.{Value, Values, nil, cons, count, Selector}
 use Rattle.seg_spec.specs.Value as values
-use Rattle.seg_spec.specs.Items.{key_place}
 use Rattle.seg_spec.specs.Index.{Root, same_name}
 use Rattle.client_spec.specs.declared.table.Operation.{Operation}
 use Rattle.client_spec.specs.Syntax.{Constant, Instruction}
-use Rattle.client_spec.specs.Machine.{◌>>=◌, Origin, Path, extend, Register, Object, State, register, set_register, owned_by, path_value, path_type, at_origin, with_name, with_unique, with_owned, replace_item, put_origin, put_at}
-use Rattle.client_spec.specs.Answer.{Answer, Outcome, success, bad_alloc, numbers_used_up, answer, answer_number, copied, integer_at, integer_or, path_of, path_form, give, fail, refer, give_count, index_below, object_count, byte_of}
-use Rattle.client_spec.specs.Answer.{type_operand, constant_operand, constant_name, constant_text, write_out, int_in, text_in, items_in, entries_in, content_in, fields_in, length_in, provided, with_room}
-use Rattle.client_spec.specs.Answer.{vec_or_list_item, list_item, map_value, owned_type, shared_type, out_of_range, absent, other_type, null_or_none, already_exists}
+use Rattle.client_spec.specs.Machine.{◌>>=◌, Origin, Path, extend, Register, Object, State, register, set_register, owned_by, path_value, at_origin, with_name, with_unique, with_owned, replace_item, put_origin, put_at}
+use Rattle.client_spec.specs.Answer.{Answer, Outcome, success, bad_alloc, numbers_used_up, answer, answer_number, copied, integer_at, integer_or, path_of, path_form, give, fail, refer, give_count, index_below, object_count}
+use Rattle.client_spec.specs.Answer.{type_operand, constant_operand, constant_name, write_out, text_in, items_in, content_in, provided, with_room}
+use Rattle.client_spec.specs.Answer.{owned_type, shared_type, out_of_range, absent, other_type, null_or_none, already_exists}
 use Rattle.client_spec.proofs.TypedStates.ValueLaws.{Some_inj}
 use Rattle.client_spec.specs.Effect.{effect, combine, next_byte, add_object, item_of_object, find_or_add, count_of_object, destroy_object, add_unique}
 use Rattle.client_spec.specs.Effect.{item_of_value, pop_bytes, pop_last, pop_first, set_text, first_key, take_content, see_content}
@@ -261,111 +260,44 @@ module _ (op : Operation) (s : State) where
       go (Some v) = given success a _ refl
   copies a (Register.Owner v t) = none
 
-  -- FORGET
-  forgets : (b : ℕ) → Keeps (option_map_or (λ _. None) (owned_by (register s b)) (Some (success, set_register s b Register.Undefined)))
-  forgets b = answered success b Register.Undefined s refl (still success)
-
 -- TAKE
 takes : (s : State) (a : ℕ) (p : Path) (t : ℕ) (o : Option Value) → Keeps Operation.Take s (take_content a p t o s)
 takes s a p t None = given Operation.Take s null_or_none a _ refl
 takes s a p t (Some v) = answered_moved Operation.Take s success a _ (put_at s p values.Empty) refl (puts Operation.Take s success p values.Empty)
 
+-- lemmas about the parts of rows that make, destroy and move no object
+ruleset row_parts = (
+  none, given, given_put, put_some, copies, combines, writes, next, item, counts, sees, value_item, bytes_pop, last_pop, first_pop, text, key,
+  bound, either, shown, roomy, some, still
+)
+
 module _ (constants : List Constant) (s : State) where
+  -- Rows that make, destroy or move an object, and UFIND's, which has a test. The search finds the proof of any other row.
   keeps : (op : Operation) (a b c : ℕ) (number : ℤ) (room : Bool) → Keeps op s (effect constants op a b c number room s)
   unfolding effect
-  keeps Operation.Const a b c number room = given Operation.Const s success a _ refl
-  keeps Operation.Mov a b c number room = copies Operation.Mov s a (register s b)
-  keeps Operation.Add a b c number room = combines Operation.Add s _ a b c
-  keeps Operation.Sub a b c number room = combines Operation.Sub s _ a b c
-  keeps Operation.Mul a b c number room = combines Operation.Mul s _ a b c
-  keeps Operation.Less a b c number room = combines Operation.Less s _ a b c
-  keeps Operation.Equal a b c number room = combines Operation.Equal s _ a b c
-  keeps Operation.If a b c number room = bound Operation.If s (integer_at s b) _ (λ x. some Operation.If s _ s (still Operation.If s _))
-  keeps Operation.While a b c number room = none Operation.While s
-  keeps Operation.Else a b c number room = none Operation.Else s
-  keeps Operation.End a b c number room = none Operation.End s
-  keeps Operation.OutInt a b c number room = bound Operation.OutInt s (integer_at s b) _ (λ x. writes Operation.OutInt s _)
-  keeps Operation.OutStr a b c number room = bound Operation.OutStr s (path_of s b) _ (λ p. bound Operation.OutStr s (path_value s p >>= text_in) _ (λ bytes. writes Operation.OutStr s bytes))
-  keeps Operation.OutConst a b c number room = bound Operation.OutConst s (slice_get constants (nat_abs number) >>= constant_text) _ (λ bytes. writes Operation.OutConst s bytes)
-  keeps Operation.GetByte a b c number room = next Operation.GetByte s a s.input
   keeps Operation.Make a b c number room =
       bound Operation.Make s (slice_get constants (constant_operand number) >>= λ k. constant_name k (register s b)) _ (λ name. bound Operation.Make s (integer_or (pos 1) c s) _
       (λ x. either Operation.Make s _ (object_count x) _ (λ n. adds Operation.Make s refl a name (type_operand number) (s.names name) n room) (given Operation.Make s out_of_range a _ refl)))
-  keeps Operation.Find a b c number room =
-      bound Operation.Find s (slice_get constants (constant_operand number) >>= λ k. constant_name k (register s b)) _ (λ name. bound Operation.Find s (integer_or (pos 0) c s) _
-      (λ x. item Operation.Find s a name (type_operand number) x (s.names name)))
   keeps Operation.FindOrMake a b c number room =
       bound Operation.FindOrMake s (slice_get constants (constant_operand number) >>= λ k. constant_name k (register s b)) _ (λ name. finds Operation.FindOrMake s refl a name (type_operand number) (s.names name) room)
-  keeps Operation.Count a b c number room =
-      bound Operation.Count s (slice_get constants (constant_operand number) >>= λ k. constant_name k (register s b)) _ (λ name. counts Operation.Count s a (type_operand number) (s.names name))
   keeps Operation.Kill a b c number room =
       bound Operation.Kill s (slice_get constants (constant_operand number) >>= λ k. constant_name k (register s b)) _ (λ name. destroys Operation.Kill s refl a name (type_operand number) (s.names name))
   keeps Operation.MakeUnique a b c number room = tested Operation.MakeUnique s _ _ _ (given Operation.MakeUnique s already_exists a _ refl) (unique Operation.MakeUnique s refl a (nat_abs number) room)
-  keeps Operation.FindUnique a b c number room = tested Operation.FindUnique s _ _ _ (given Operation.FindUnique s success a _ refl) (given Operation.FindUnique s absent a _ refl)
   keeps Operation.FindOrMakeUnique a b c number room = tested Operation.FindOrMakeUnique s _ _ _ (given Operation.FindOrMakeUnique s success a _ refl) (unique Operation.FindOrMakeUnique s refl a (nat_abs number) room)
   keeps Operation.KillUnique a b c number room = tested Operation.KillUnique s _ _ _ (answered Operation.KillUnique s success a _ _ refl (new_uniques Operation.KillUnique s success _ refl)) (given Operation.KillUnique s success a _ refl)
+  keeps Operation.FindUnique a b c number room = tested Operation.FindUnique s _ _ _ (given Operation.FindUnique s success a _ refl) (given Operation.FindUnique s absent a _ refl)
   keeps Operation.New a b c number room = roomy Operation.New s room a _ (answered_moved Operation.New s success a _ s refl (still Operation.New s success))
   keeps Operation.Drop a b c number room = bound Operation.Drop s (owned_by (register s b)) _ (λ o. some Operation.Drop s success _ (moved_kept Operation.Drop s success b Register.Undefined s refl (still Operation.Drop s success)))
-  keeps Operation.Ref a b c number room = bound Operation.Ref s (owned_by (register s b)) _ (λ o. given Operation.Ref s success a _ refl)
   keeps Operation.Put a b c number room =
       bound Operation.Put s (path_of s b) _ (λ p. bound Operation.Put s (path_form s p >>= owned_type) _ (λ t. bound Operation.Put s (owned_by (register s c)) _ (λ new. bound Operation.Put s
       (path_value s p >>= content_in) _ (λ o. shown Operation.Put s _ _ (some Operation.Put s success _ (moved_kept Operation.Put s success c Register.Undefined _ refl (puts Operation.Put s success p _)))))))
   keeps Operation.Take a b c number room =
       bound Operation.Take s (path_of s b) _ (λ p. bound Operation.Take s (path_form s p >>= owned_type) _ (λ t. bound Operation.Take s (path_value s p >>= content_in) _ (λ inside. takes s a p t inside)))
-  keeps Operation.Content a b c number room = bound Operation.Content s (path_of s b) _ (λ p. bound Operation.Content s (path_value s p >>= content_in) _ (λ inside. sees Operation.Content s a p inside))
-  keeps Operation.Clear a b c number room =
-      bound Operation.Clear s (path_of s b) _ (λ p. bound Operation.Clear s (path_type s p) _ (λ t. bound Operation.Clear s (path_value s p) _ (λ v. put_some Operation.Clear s p _)))
-  keeps Operation.Forget a b c number room = forgets Operation.Forget s b
-  keeps Operation.Load a b c number room = bound Operation.Load s (path_of s b) _ (λ p. bound Operation.Load s (path_value s p >>= int_in) _ (λ k. given Operation.Load s success a _ refl))
-  keeps Operation.Store a b c number room =
-      bound Operation.Store s (path_of s b) _ (λ p. bound Operation.Store s (path_value s p >>= int_in) _ (λ k. bound Operation.Store s (integer_at s c) _ (λ x. put_some Operation.Store s p _)))
-  keeps Operation.Field a b c number room =
-      bound Operation.Field s (path_of s b) _ (λ p. bound Operation.Field s (path_value s p >>= fields_in) _ (λ vs. bound Operation.Field s (index_below (count vs) number) _ (λ i. given Operation.Field s success a _ refl)))
-  keeps Operation.Len a b c number room = bound Operation.Len s (path_of s b) _ (λ p. bound Operation.Len s (path_value s p >>= length_in) _ (λ n. given Operation.Len s success a _ refl))
-  keeps Operation.At a b c number room =
-      bound Operation.At s (path_of s b) _ (λ p. bound Operation.At s (integer_at s c) _ (λ x. bound Operation.At s (path_value s p) _ (λ v. value_item Operation.At s a p x v)))
-  keeps Operation.PushBack a b c number room =
-      bound Operation.PushBack s (path_of s b) _ (λ p. bound Operation.PushBack s (path_form s p >>= vec_or_list_item) _ (λ t. bound Operation.PushBack s (path_value s p >>= items_in) _
-      (λ vs. roomy Operation.PushBack s room a _ (given_put Operation.PushBack s a _ p _ refl))))
-  keeps Operation.PushFront a b c number room =
-      bound Operation.PushFront s (path_of s b) _ (λ p. bound Operation.PushFront s (path_form s p >>= list_item) _ (λ t. bound Operation.PushFront s (path_value s p >>= items_in) _
-      (λ vs. roomy Operation.PushFront s room a _ (given_put Operation.PushFront s a _ p _ refl))))
-  keeps Operation.PopBack a b c number room =
-      bound Operation.PopBack s (path_of s b) _ (λ p. bound Operation.PopBack s (path_value s p) _
-      (λ v. either Operation.PopBack s _ (text_in v) _ (λ bytes. bytes_pop Operation.PopBack s a p bytes) (bound Operation.PopBack s (items_in v) _ (λ vs. last_pop Operation.PopBack s a p vs))))
-  keeps Operation.PopFront a b c number room =
-      bound Operation.PopFront s (path_of s b) _ (λ p. bound Operation.PopFront s (path_form s p >>= list_item) _ (λ t. bound Operation.PopFront s (path_value s p >>= items_in) _ (λ vs. first_pop Operation.PopFront s a p vs)))
-  keeps Operation.SetStr a b c number room =
-      bound Operation.SetStr s (path_of s b) _ (λ p. bound Operation.SetStr s (path_value s p >>= text_in) _
-      (λ old. bound Operation.SetStr s (slice_get constants (nat_abs number) >>= constant_text) _ (λ new. text Operation.SetStr s a p new room)))
-  keeps Operation.AddStr a b c number room =
-      bound Operation.AddStr s (path_of s b) _ (λ p. bound Operation.AddStr s (path_value s p >>= text_in) _
-      (λ old. bound Operation.AddStr s (slice_get constants (nat_abs number) >>= constant_text) _ (λ more. text Operation.AddStr s a p _ room)))
-  keeps Operation.AddByte a b c number room =
-      bound Operation.AddByte s (path_of s b) _ (λ p. bound Operation.AddByte s (path_value s p >>= text_in) _ (λ old. bound Operation.AddByte s (integer_at s c) _
-      (λ x. either Operation.AddByte s _ (byte_of x) _ (λ byte. text Operation.AddByte s a p _ room) (given Operation.AddByte s out_of_range a _ refl))))
-  keeps Operation.Shrink a b c number room =
-      bound Operation.Shrink s (path_of s b) _ (λ p. bound Operation.Shrink s (path_form s p) _ (λ k. bound Operation.Shrink s (path_value s p) _
-      (λ v. shown Operation.Shrink s _ _ (some Operation.Shrink s success s (still Operation.Shrink s success)))))
-  keeps Operation.GetKey a b c number room =
-      bound Operation.GetKey s (path_of s b) _ (λ p. bound Operation.GetKey s (integer_at s c) _ (λ k. bound Operation.GetKey s (path_value s p >>= entries_in) _
-      (λ es. either Operation.GetKey s _ (key_place es.0 k) _ (λ j. given Operation.GetKey s success a _ refl) (given Operation.GetKey s absent a _ refl))))
-  keeps Operation.PutKey a b c number room =
-      bound Operation.PutKey s (path_of s b) _ (λ p. bound Operation.PutKey s (integer_at s c) _ (λ k. bound Operation.PutKey s (path_form s p >>= map_value) _ (λ t. bound Operation.PutKey s (path_value s p >>= entries_in) _
-      (λ es. either Operation.PutKey s _ (key_place es.0 k) _ (λ j. given Operation.PutKey s success a _ refl) (roomy Operation.PutKey s room a _ (given_put Operation.PutKey s a _ p _ refl))))))
-  keeps Operation.DeleteKey a b c number room =
-      bound Operation.DeleteKey s (path_of s b) _ (λ p. bound Operation.DeleteKey s (integer_at s c) _ (λ k. bound Operation.DeleteKey s (path_value s p >>= entries_in) _
-      (λ es. either Operation.DeleteKey s _ (key_place es.0 k) _ (λ j. given_put Operation.DeleteKey s a _ p _ refl) (given Operation.DeleteKey s success a _ refl))))
-  keeps Operation.FirstKey a b c number room = bound Operation.FirstKey s (path_of s b) _ (λ p. bound Operation.FirstKey s (path_value s p >>= entries_in) _ (λ es. key Operation.FirstKey s a es.0))
-  keeps Operation.NextKey a b c number room =
-      bound Operation.NextKey s (path_of s b) _ (λ p. bound Operation.NextKey s (integer_at s c) _ (λ k. bound Operation.NextKey s (path_value s p >>= entries_in) _ (λ es. key Operation.NextKey s a _)))
   keeps Operation.Freeze a b c number room =
       bound Operation.Freeze s (path_of s b) _ (λ p. bound Operation.Freeze s (path_form s p >>= shared_type) _ (λ t. bound Operation.Freeze s (owned_by (register s c)) _ (λ own. bound Operation.Freeze s (path_value s p) _
       (λ v. shown Operation.Freeze s _ _ (roomy Operation.Freeze s room a _ (answered_moved Operation.Freeze s success a _ _ refl
       (moved_kept Operation.Freeze s success c Register.Undefined _ refl (puts Operation.Freeze s success p _))))))))
-  keeps Operation.Share a b c number room =
-      bound Operation.Share s (path_of s b) _ (λ p. bound Operation.Share s (path_form s p >>= shared_type) _ (λ t. bound Operation.Share s (path_of s c) _ (λ q. bound Operation.Share s (path_form s q >>= shared_type) _
-      (λ u. bound Operation.Share s (path_value s p) _ (λ old. bound Operation.Share s (path_value s q) _ (λ v. shown Operation.Share s _ _ (put_some Operation.Share s p v)))))))
+  keeps operation a b c number room = search row_parts depth 10
 
   -- FREEZE sets no register that owns an object
   record Frees (a : ℕ) (o : Outcome) : Type 0 where
