@@ -77,7 +77,7 @@ all_fit bytes p held xs fewer = each_there (Fits bytes) xs (λ h some. (
 pub root_one : (a b : Root) → a.name ≡ b.name → a.words ≡ b.words → a.at ≡ b.at → a.type ≡ b.type → a.values ≡ b.values → a ≡ b
 root_one a b n w at t vs = λ i. record { name = n i; words = w i; at = at i; type = t i; values = vs i }
 
-among_as : (x y : Picture) → SamePicture x y → x.loose ≡ y.loose → ((f : Frozen) → IsOneOf f x.frozen → IsOneOf f y.frozen) → (c : Root) → IsAmong c (roots_of x) → IsAmong c (roots_of y)
+pub among_as : (x y : Picture) → SamePicture x y → x.loose ≡ y.loose → ((f : Frozen) → IsOneOf f x.frozen → IsOneOf f y.frozen) → (c : Root) → IsAmong c (roots_of x) → IsAmong c (roots_of y)
 among_as x y same loose forth c i = (
     elim (among_either c x.names (x.uniques ++ (x.loose ++ frozen_roots x)) i) [
       | inl j ↦ among_left c y.names (y.uniques ++ (y.loose ++ frozen_roots y)) (subst (IsAmong c) same.names j)
@@ -96,7 +96,7 @@ among_as x y same loose forth c i = (
     frozen (g ∷ gs) f (inr i) = frozen gs (λ h j. f h (inr j)) i
 
 -- the value of a frozen object
-value_kept : (first second new other : List ℕ) (table : Table) → IsTable table → (f : Frozen) {xs ys : List ℕ} → (o : IsFrozenThere first table f xs) → (u : IsFrozenThere second table f ys)
+pub value_kept : (first second new other : List ℕ) (table : Table) → IsTable table → (f : Frozen) {xs ys : List ℕ} → (o : IsFrozenThere first table f xs) → (u : IsFrozenThere second table f ys)
     → SamePlace first new table (record { at = f.at + 8; type = f.type }) → SamePlace second other table (record { at = f.at + 8; type = f.type }) → AllByRecursion (KeepsBlock first new) o.inside
     → AllByRecursion (KeepsBlock second other) u.inside → AlikeRoot first second table (root_of_frozen f) → AlikeRoot new other table (root_of_frozen f)
 value_kept first second new other table valid f o u same same_too kept kept_too (more_alike a rest) =

@@ -205,7 +205,7 @@ module _ (first second : List ℕ) where
 
 -- ---- the entries of nodes that are kept
 
-node_there : (ns : List ℕ) (node : ℕ) {bytes : List ℕ} (tag each : ℕ) → AreNodes bytes tag each ns → 16 ≤ node → 1 ≤ times (block_of node) (map block_of ns) → IsBlock bytes node tag each × In node ns
+pub node_there : (ns : List ℕ) (node : ℕ) {bytes : List ℕ} (tag each : ℕ) → AreNodes bytes tag each ns → 16 ≤ node → 1 ≤ times (block_of node) (map block_of ns) → IsBlock bytes node tag each × In node ns
 node_there [] node tag each a low l = absurd (omega (arith, l))
 node_there (n ∷ ns) node {bytes = bytes} tag each a low l = go (node_there ns node tag each a.1 low) (cases_eq (block_of n) (block_of node))
   where
@@ -214,13 +214,13 @@ node_there (n ∷ ns) node {bytes = bytes} tag each a low l = go (node_there ns 
     go later (inr other) = (let r = later (omega (arith, l, times-other (block_of node) (block_of n) (map block_of ns) other)) in (r.0, inr r.1))
 
 -- the index of an image as a tree
-record TreeIndex (bytes : List ℕ) (p : Picture) (held : IsHeld bytes p) : Type 0 where
-  nodes : List ℕ
-  blocks_are : held.index_blocks ≡ map block_of nodes
-  are_nodes : AreNodes bytes (tag_of Kind.index_node 0) index_node_size nodes
-  entries : AreEntries bytes (map (λ n. n + tree_words) nodes) p.names
+pub record TreeIndex (bytes : List ℕ) (p : Picture) (held : IsHeld bytes p) : Type 0 where
+  pub nodes : List ℕ
+  pub blocks_are : held.index_blocks ≡ map block_of nodes
+  pub are_nodes : AreNodes bytes (tag_of Kind.index_node 0) index_node_size nodes
+  pub entries : AreEntries bytes (map (λ n. n + tree_words) nodes) p.names
 
-tree_index : (bytes : List ℕ) (p : Picture) (held : IsHeld bytes p) → (word bytes index_kind_word ≡ 0 → ⊥) → TreeIndex bytes p held
+pub tree_index : (bytes : List ℕ) (p : Picture) (held : IsHeld bytes p) → (word bytes index_kind_word ≡ 0 → ⊥) → TreeIndex bytes p held
 tree_index bytes p held tree = by (word bytes index_kind_word) tree held.laid_out.names.index held.laid_out.names.opens held.laid_out.names.blocks_are held.laid_out.names.entries
   where
     by : (kind : ℕ) → (kind ≡ 0 → ⊥) → (index : Index) → OpensIndex bytes kind index → held.index_blocks ≡ index.blocks → AreEntries bytes index.entries p.names → TreeIndex bytes p held

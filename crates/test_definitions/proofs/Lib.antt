@@ -85,6 +85,9 @@ pub mod NewObjectLaws
 pub mod UniqueStepLaws
 pub mod NewStepLaws
 pub mod DropStepLaws
+pub mod LostObjectLaws
+pub mod LostAlikeLaws
+pub mod RemovedRootLaws
 pub mod AlikeRowLaws
 pub mod Several
 pub mod Whole
