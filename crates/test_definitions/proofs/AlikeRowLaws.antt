@@ -18,6 +18,8 @@ use Rattle.test_definitions.proofs.AddingStepLaws.{adding_alike}
 use Rattle.test_definitions.proofs.UniqueStepLaws.{unique_alike}
 use Rattle.test_definitions.proofs.NewStepLaws.{new_alike}
 use Rattle.test_definitions.proofs.DropStepLaws.{drop_alike}
+use Rattle.test_definitions.proofs.KillStepLaws.{kill_alike}
+use Rattle.test_definitions.proofs.KillUniqueStepLaws.{kill_unique_alike}
 use Rattle.test_definitions.proofs.PopFrontStepLaws.{pop_front_alike}
 
 module _ (constants : List Constant) (others : List Root) (moves : List Move) (i : Instruction) (x z y w : Situation) (first second : Answer) (stand : StandAlike others x z) (r : RowOn constants others moves i x first y)
@@ -37,8 +39,8 @@ module _ (constants : List Constant) (others : List Root) (moves : List Move) (i
   by_operation Operation.Clear is e = clear_alike constants others moves i is x z y w first second stand r q
   by_operation Operation.Make is e = cc
   by_operation Operation.FindOrMake is e = cc
-  by_operation Operation.Kill is e = cc
-  by_operation Operation.KillUnique is e = cc
+  by_operation Operation.Kill is e = kill_alike constants others moves i is x z y w first second stand r q
+  by_operation Operation.KillUnique is e = kill_unique_alike constants others moves i is x z y w first second stand r q
   by_operation Operation.Put is e = cc
   by_operation Operation.Take is e = cc
   by_operation Operation.PushBack is e = adding_alike constants others moves i (inl is) x z y w first second stand r q

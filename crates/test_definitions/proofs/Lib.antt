@@ -88,6 +88,9 @@ pub mod DropStepLaws
 pub mod LostObjectLaws
 pub mod LostAlikeLaws
 pub mod RemovedRootLaws
+pub mod LostStepLaws
+pub mod KillUniqueStepLaws
+pub mod KillStepLaws
 pub mod AlikeRowLaws
 pub mod Several
 pub mod Whole
