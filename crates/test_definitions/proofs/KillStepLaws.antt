@@ -1,52 +1,46 @@
 -- Two situations that clients can't tell apart stay so after KILL.
-use Rattle.std.specs.Prelude.{ℤ, pos, nat_abs, ◌==◌, if◌then◌else◌, is_some, slice_get}
-use Rattle.std.proofs.Common.{◌≡◌, ◌≢◌, ℕ, zero, suc, ◌+◌, ◌≤◌, ◌⊎◌, inl, inr, Bool, true, false, List, [], ◌∷◌, ◌++◌, map, Option, Some, None, option_map, refl, sym, ap, ◌∙◌, subst, arith, append_assoc}
-use Rattle.std.proofs.lemmas.List.{append-nil}
+use Rattle.std.specs.Prelude.{ℤ, pos, ◌==◌, if◌then◌else◌, is_some, slice_get}
+use Rattle.std.proofs.Common.{◌≡◌, ◌≢◌, ℕ, zero, suc, ◌≤◌, ◌⊎◌, inl, inr, Bool, true, false, List, [], ◌∷◌, ◌++◌, map, Option, Some, None, option_map, refl, sym, ap, ◌∙◌, subst, arith, append_assoc}
 use Rattle.std.proofs.lemmas.Bool.{cases_eq}
 use Rattle.seg_spec.specs.Bytes.{word}
 use Rattle.seg_spec.specs.Header.{next_word, index_kind_word, index_cell}
-use Rattle.seg_spec.specs.Types.{Table}
 use Rattle.seg_spec.specs.Value.{Value}
 use Rattle.seg_spec.specs.Heap.{live}
 use Rattle.seg_spec.specs.Block.{block_of, KeepsBlock}
 use Rattle.seg_spec.specs.Apart.{KeepsBlockAround}
 use Rattle.seg_spec.specs.Reads.{count_at, named}
-use Rattle.seg_spec.specs.Index.{Root, Index, OpensIndex, AreAscending, AreRising, same_name, root_named, root_of_type}
-use Rattle.seg_spec.specs.Shapes.{tree_words}
+use Rattle.seg_spec.specs.Index.{Root, Index, OpensIndex, AreAscending, same_name, root_named}
 use Rattle.seg_spec.specs.Sound.{HoldsRoot, times, positions}
 use Rattle.seg_spec.specs.Counting.{owners_in}
 use Rattle.seg_spec.specs.Demand.{after_gives}
-use Rattle.seg_spec.specs.Roots.{HasFace, KeepsNodes}
+use Rattle.seg_spec.specs.Roots.{HasFace}
 use Rattle.seg_spec.specs.Spending.{EntryBlocks, killed}
-use Rattle.seg_spec.proofs.Heap.LiveBlockLaws.{times-append, times-same, times-other, live-once}
+use Rattle.seg_spec.proofs.Heap.LiveBlockLaws.{times-append, times-same, times-other}
 use Rattle.client_spec.specs.declared.table.Operation.{Operation}
 use Rattle.client_spec.specs.Syntax.{Constant, Instruction}
-use Rattle.client_spec.specs.Machine.{◌>>=◌, Register, Object, State, Names, Uniques, register, with_name, with_unique}
+use Rattle.client_spec.specs.Machine.{◌>>=◌, Register, Object, State, Names, register, with_name}
 use Rattle.client_spec.specs.Answer.{Answer, Outcome, success, type_operand, constant_operand, constant_name, give_count}
 use Rattle.client_spec.specs.Effect.{effect, destroy_object}
 use Rattle.client_spec.specs.Trees.{unfolded_object}
 use Rattle.client_spec.specs.Pictures.{Pictures, object_of, meaning_in}
-use Rattle.client_spec.specs.Asks.{name_operand, RootGoes, NamedGoes, AsksBy, ReturnsBy, GrantsAsks, ChangesOnSuccess}
-use Rattle.client_spec.specs.Ties.{Spot, nowhere, keeps_image, places_of, OfRoot, OfFrozen, TouchesBy, KeepsBy, Changes}
+use Rattle.client_spec.specs.Asks.{name_operand, NamedGoes, AsksBy, ReturnsBy, GrantsAsks, ChangesOnSuccess}
+use Rattle.client_spec.specs.Ties.{Spot, nowhere, keeps_image, OfRoot, TouchesBy, KeepsBy, Changes}
 use Rattle.client_spec.specs.OnImages.{Move, Situation, RowWith, RowOn}
 use Rattle.client_spec.proofs.TypedStates.StateLaws.{same_name_is}
 use Rattle.client_spec.proofs.Unfolded.UnfoldedStateLaws.{name_same}
 use Rattle.test_definitions.specs.Alike.{Idle, StandAlike, StaysAlike}
-use Rattle.test_definitions.proofs.AlikeRootLaws.{of_type}
 use Rattle.test_definitions.proofs.AnsweredRowLaws.{from_answer}
 use Rattle.test_definitions.proofs.ChangedPlaceLaws.{holds_one}
-use Rattle.test_definitions.proofs.EndedImageLaws.{frozen_by}
 use Rattle.test_definitions.proofs.FrozenApartLaws.{frozen_apart, among_either}
 use Rattle.test_definitions.proofs.KeptImageLaws.{whole}
-use Rattle.test_definitions.proofs.KeptRowLaws.{owned_kept, one, unchanged_alike, one_before, plain_before, idle_alike}
-use Rattle.test_definitions.proofs.ListedRootLaws.{type_is}
+use Rattle.test_definitions.proofs.KeptRowLaws.{one, unchanged_alike, one_before, plain_before, idle_alike}
 use Rattle.test_definitions.proofs.LostObjectLaws as lost
-use Rattle.test_definitions.proofs.LostStepLaws.{Destroys, only_given, around_node, held_here, frozen_are, same_places, same_loose, loose_plain, index_apart, keeps, lost as loses, both_lost}
-use Rattle.test_definitions.proofs.OwningRegisterLaws.{moves_owners, changes_names, changes_uniques}
+use Rattle.test_definitions.proofs.LostStepLaws.{Destroys, only_given, held_here, frozen_are, same_places, same_loose, loose_plain, keeps, lost as loses, both_lost}
+use Rattle.test_definitions.proofs.OwningRegisterLaws.{moves_owners, changes_uniques}
 use Rattle.test_definitions.proofs.OneReturnLaws.{contained, killed_is}
-use Rattle.test_definitions.proofs.PlaceStepLaws.{named_there, unique_there, names_stay, uniques_stay, nothing_changes}
-use Rattle.test_definitions.proofs.RemovedRootLaws.{Divided, divided, among_rest, names_ascend, named_without, types_rise, typed_without}
-use Rattle.test_definitions.proofs.RootMemberLaws.{IsAmong, each_among, among_left, among_right, looked_up, counts, owns}
+use Rattle.test_definitions.proofs.PlaceStepLaws.{named_there, uniques_stay, nothing_changes}
+use Rattle.test_definitions.proofs.RemovedRootLaws.{divided, names_ascend, named_without}
+use Rattle.test_definitions.proofs.RootMemberLaws.{IsAmong, among_left, among_right, looked_up}
 
 -- ---- the blocks that the index loses
 

@@ -1,52 +1,30 @@
 -- Two situations that clients can't tell apart stay so after UKILL.
-use Rattle.std.specs.Prelude.{ℤ, pos, nat_abs, ◌==◌, if◌then◌else◌, is_some, slice_get}
-use Rattle.std.proofs.Common.{◌≡◌, ◌≢◌, ℕ, zero, suc, ◌+◌, ◌≤◌, ◌⊎◌, inl, inr, Bool, true, false, List, [], ◌∷◌, ◌++◌, map, Option, Some, None, option_map, refl, sym, ap, ◌∙◌, subst, arith, append_assoc}
-use Rattle.std.proofs.lemmas.List.{append-nil}
-use Rattle.std.proofs.lemmas.Bool.{cases_eq}
-use Rattle.seg_spec.specs.Bytes.{word}
-use Rattle.seg_spec.specs.Header.{next_word, index_kind_word, index_cell}
-use Rattle.seg_spec.specs.Types.{Table}
-use Rattle.seg_spec.specs.Value.{Value}
-use Rattle.seg_spec.specs.Heap.{live}
-use Rattle.seg_spec.specs.Block.{block_of, KeepsBlock}
-use Rattle.seg_spec.specs.Apart.{KeepsBlockAround}
-use Rattle.seg_spec.specs.Reads.{count_at, named}
-use Rattle.seg_spec.specs.Index.{Root, Index, OpensIndex, AreAscending, AreRising, same_name, root_named, root_of_type}
-use Rattle.seg_spec.specs.Shapes.{tree_words}
-use Rattle.seg_spec.specs.Sound.{HoldsRoot, times, positions}
+use Rattle.std.specs.Prelude.{ℤ, pos, nat_abs, ◌==◌, if◌then◌else◌, is_some}
+use Rattle.std.proofs.Common.{◌≡◌, ℕ, inl, inr, Bool, true, false, List, [], ◌∷◌, ◌++◌, Option, Some, None, refl, sym, ap, ◌∙◌, subst, append_assoc}
+use Rattle.seg_spec.specs.Index.{Root, AreRising, root_of_type}
 use Rattle.seg_spec.specs.Counting.{owners_in}
-use Rattle.seg_spec.specs.Demand.{after_gives}
-use Rattle.seg_spec.specs.Roots.{HasFace, KeepsNodes}
-use Rattle.seg_spec.specs.Spending.{EntryBlocks, killed}
-use Rattle.seg_spec.proofs.Heap.LiveBlockLaws.{times-append, times-same, times-other, live-once}
+use Rattle.seg_spec.specs.Roots.{HasFace}
 use Rattle.client_spec.specs.declared.table.Operation.{Operation}
 use Rattle.client_spec.specs.Syntax.{Constant, Instruction}
-use Rattle.client_spec.specs.Machine.{◌>>=◌, Register, Object, State, Names, Uniques, register, with_name, with_unique}
-use Rattle.client_spec.specs.Answer.{Answer, Outcome, success, type_operand, constant_operand, constant_name, give_count}
-use Rattle.client_spec.specs.Effect.{effect, destroy_object}
-use Rattle.client_spec.specs.Trees.{unfolded_object}
-use Rattle.client_spec.specs.Pictures.{Pictures, object_of, meaning_in}
-use Rattle.client_spec.specs.Asks.{name_operand, RootGoes, NamedGoes, AsksBy, ReturnsBy, GrantsAsks, ChangesOnSuccess}
-use Rattle.client_spec.specs.Ties.{Spot, nowhere, keeps_image, places_of, OfRoot, OfFrozen, TouchesBy, KeepsBy, Changes}
+use Rattle.client_spec.specs.Machine.{Register, State, Uniques, with_unique}
+use Rattle.client_spec.specs.Answer.{Answer, Outcome, success, give_count}
+use Rattle.client_spec.specs.Effect.{effect}
+use Rattle.client_spec.specs.Pictures.{Pictures}
+use Rattle.client_spec.specs.Asks.{AsksBy, ReturnsBy, GrantsAsks, ChangesOnSuccess}
+use Rattle.client_spec.specs.Ties.{keeps_image, TouchesBy}
 use Rattle.client_spec.specs.OnImages.{Move, Situation, RowWith, RowOn}
-use Rattle.client_spec.proofs.TypedStates.StateLaws.{same_name_is}
-use Rattle.client_spec.proofs.Unfolded.UnfoldedStateLaws.{name_same}
 use Rattle.test_definitions.specs.Alike.{Idle, StandAlike, StaysAlike}
 use Rattle.test_definitions.proofs.AlikeRootLaws.{of_type}
 use Rattle.test_definitions.proofs.AnsweredRowLaws.{from_answer}
-use Rattle.test_definitions.proofs.ChangedPlaceLaws.{holds_one}
-use Rattle.test_definitions.proofs.EndedImageLaws.{frozen_by}
-use Rattle.test_definitions.proofs.FrozenApartLaws.{frozen_apart, among_either}
-use Rattle.test_definitions.proofs.KeptImageLaws.{whole}
-use Rattle.test_definitions.proofs.KeptRowLaws.{owned_kept, one, unchanged_alike, one_before, plain_before, idle_alike}
+use Rattle.test_definitions.proofs.FrozenApartLaws.{among_either}
+use Rattle.test_definitions.proofs.KeptRowLaws.{one, unchanged_alike, one_before, idle_alike}
 use Rattle.test_definitions.proofs.ListedRootLaws.{type_is}
 use Rattle.test_definitions.proofs.LostObjectLaws as lost
-use Rattle.test_definitions.proofs.LostStepLaws.{Destroys, only_given, around_node, held_here, frozen_are, same_places, same_loose, loose_plain, index_apart, keeps, lost as loses, both_lost}
-use Rattle.test_definitions.proofs.OwningRegisterLaws.{moves_owners, changes_names, changes_uniques}
-use Rattle.test_definitions.proofs.OneReturnLaws.{contained, killed_is}
-use Rattle.test_definitions.proofs.PlaceStepLaws.{named_there, unique_there, names_stay, uniques_stay, nothing_changes}
-use Rattle.test_definitions.proofs.RemovedRootLaws.{Divided, divided, among_rest, names_ascend, named_without, types_rise, typed_without}
-use Rattle.test_definitions.proofs.RootMemberLaws.{IsAmong, each_among, among_left, among_right, looked_up, counts, owns}
+use Rattle.test_definitions.proofs.LostStepLaws.{Destroys, same_places, same_loose, loose_plain, root_destroyed, keeps, lost as loses, both_lost}
+use Rattle.test_definitions.proofs.OwningRegisterLaws.{moves_owners, changes_names}
+use Rattle.test_definitions.proofs.PlaceStepLaws.{unique_there, names_stay}
+use Rattle.test_definitions.proofs.RemovedRootLaws.{divided, types_rise, typed_without}
+use Rattle.test_definitions.proofs.RootMemberLaws.{IsAmong, among_left, among_right}
 
 regrouped : (a b c e : List Root) → a ++ ((b ++ c) ++ e) ≡ (a ++ b) ++ (c ++ e)
 regrouped a b c e = simp append_assoc
@@ -73,51 +51,12 @@ module _ (constants : List Constant) (others : List Root) (moves : List Move) (i
   abbrev after_row : Pictures others r.after.plain y.image
   after_row = r.after.pictured
 
-  unique_goes : (g : GrantsAsks constants i r.before.pictured y.image) × (g.asks ≡ []) × RootGoes constants i r.before.pictured (Some d) g.gives
-  unique_goes =
-      let g : GrantsAsks constants i was y.image = subst (λ o. ChangesOnSuccess constants i was o y.image) is r.blocks in (
-        g,
-        subst (λ o. AsksBy constants i was o g.asks) is g.asked,
-        subst (λ o. RootGoes constants i was o g.gives) found (subst (λ o. ReturnsBy constants i was o g.gives) is g.returned),
-      )
-
-  unique_its : List ℕ
-  unique_its = unique_goes.2.0
-
-  unique_holds : HoldsRoot x.image r.before.pictured.picture.table d unique_its
-  unfolding unique_its
-  unique_holds = held_here constants others moves i x y r d unique_goes.2.0 unique_goes.2.1
-
-  unique_around : (h : ℕ) → 1 ≤ times h (positions (live x.image)) → times h unique_its ≡ 0 → times h (frozen_apart x.image r.before.pictured.picture r.before.pictured.held).frozen ≡ 0 → KeepsBlockAround x.image y.image 0 0 h
-  unique_around h some none none_frozen = by r.ties.changes
-    where
-      by : (y.image ≡ x.image) ⊎ Changes constants i r.before.pictured y.image → KeepsBlockAround x.image y.image 0 0 h
-      by (inl e) = nothing_changes x.image y.image was.picture was.held nowhere [] e h some refl
-      by (inr c) =
-          let t = subst (λ o. TouchesBy constants i was o c.spot c.own) is c.touches in
-          let mine = holds_one x.image was.picture.table d (held_here constants others moves i x y r d t.1.0 (subst (λ o. OfRoot was o t.1.0) found t.1.2)) unique_holds in
-          let theirs = frozen_are constants others moves i x y r t.1.1 t.1.3 in
-          let none_own : times h c.own ≡ 0 = omega (arith, none, none_frozen, ap (times h) mine, ap (times h) theirs, ap (times h) t.1.4, times-append h t.1.0 t.1.1) in
-          subst (λ (z : Spot). KeepsBlockAround x.image y.image z.at z.bytes h) t.0 (c.kept h some none_own)
-
-  unique_among : IsAmong d (owners_in r.before.pictured.picture)
-  unique_among = among_right d was.picture.names (was.picture.uniques ++ was.picture.loose) (among_left d was.picture.uniques was.picture.loose (of_type was.picture.uniques (nat_abs i.number) d found))
-
   unique_destroyed : Destroys r.before.pictured y.image d
-  unfolding unique_its
   unique_destroyed =
-      let g = unique_goes in
-      record {
-        its = g.2.0;
-        holds_it = unique_holds;
-        entries = [];
-        of_index = λ h. omega arith;
-        shared = g.2.2.0;
-        freeing = g.2.2.1;
-        returned = only_given constants i was y.image g.0 g.1 ∙ ap (after_gives (live x.image)) (g.2.2.2 ∙ ap (λ xs. xs ++ g.2.2.0) (sym (append-nil g.2.0)));
-        kept = λ h some none no_index none_frozen. whole x.image y.image h (unique_around h some none none_frozen);
-        nodes = λ tree h some now. (let a = index_apart constants others moves i x y r d g.2.0 unique_among unique_holds h some in around_node x.image y.image h (unique_around h a.0 a.1 a.2));
-      }
+      let g : GrantsAsks constants i was y.image = subst (λ o. ChangesOnSuccess constants i was o y.image) is r.blocks in
+      let among = among_right d was.picture.names (was.picture.uniques ++ was.picture.loose) (among_left d was.picture.uniques was.picture.loose (of_type was.picture.uniques (nat_abs i.number) d found)) in
+      root_destroyed constants others moves i x y r g (subst (λ o. AsksBy constants i was o g.asks) is g.asked) (root_of_type was.picture.uniques (nat_abs i.number))
+      (subst (λ o. ReturnsBy constants i was o g.gives) is g.returned) (λ spot own t. subst (λ o. TouchesBy constants i was o spot own) is t) d found among
 
   uniques_then : y.state.uniques ≡ with_unique x.state.uniques (nat_abs i.number) None
   uniques_then = by r.row

@@ -1,5 +1,5 @@
 -- Two images that are alike are so again after both lost the same objects.
-use Rattle.std.proofs.Common.{◌≡◌, ℕ, zero, suc, ◌+◌, ◌≤◌, ◌⊎◌, inl, inr, List, [], ◌∷◌, ◌++◌, length, map, Some, refl, sym, ap, ◌∙◌, subst, arith}
+use Rattle.std.proofs.Common.{◌≡◌, ℕ, zero, suc, ◌+◌, ◌≤◌, inl, inr, List, [], ◌∷◌, ◌++◌, length, refl, sym, ap, ◌∙◌, subst, arith}
 use Rattle.std.specs.List.{AllByRecursion}
 use Rattle.seg_spec.specs.Bytes.{word}
 use Rattle.seg_spec.specs.Header.{allocator_word, next_word, index_kind_word, KeepsFront}
@@ -7,18 +7,16 @@ use Rattle.seg_spec.specs.Pointer.{target}
 use Rattle.seg_spec.specs.Shapes.{tree_words}
 use Rattle.seg_spec.specs.Types.{Table, IsTable}
 use Rattle.seg_spec.specs.Heap.{live}
-use Rattle.seg_spec.specs.Block.{KeepsBlock, block_of}
+use Rattle.seg_spec.specs.Block.{block_of}
 use Rattle.seg_spec.specs.Apart.{KeepsBlockAround}
 use Rattle.seg_spec.specs.Reads.{items}
 use Rattle.seg_spec.specs.Index.{Root, index_node_size}
 use Rattle.seg_spec.specs.Frozen.{Frozen, root_of_frozen}
-use Rattle.seg_spec.specs.Shared.{IsCounted}
-use Rattle.seg_spec.specs.Sound.{Picture, IsHeld, HoldsRoot, HoldsRoots, roots_of, times, positions}
-use Rattle.seg_spec.specs.Counting.{cells_in, owners_in}
+use Rattle.seg_spec.specs.Sound.{Picture, IsHeld, HoldsRoots, roots_of, times, positions}
+use Rattle.seg_spec.specs.Counting.{cells_in}
 use Rattle.seg_spec.specs.Roots.{SamePicture}
 use Rattle.seg_spec.proofs.Frozen.ReleaseLaws.{IsFrozenThere}
-use Rattle.seg_spec.proofs.SliceLaws.{IsSame-part}
-use Rattle.seg_spec.proofs.Values.PlaceFrameLaws.{word-same, target-same}
+use Rattle.seg_spec.proofs.Values.PlaceFrameLaws.{target-same}
 use Rattle.client_spec.specs.Machine.{State}
 use Rattle.client_spec.specs.Pictures.{Pictures}
 use Rattle.client_spec.specs.Ties.{places_of}
@@ -37,7 +35,6 @@ use Rattle.test_definitions.proofs.OneFrozenLaws.{Reordered, reordered, is_there
 use Rattle.test_definitions.proofs.OnePlaceLaws.{kinds as kinds_same}
 use Rattle.test_definitions.proofs.OneReturnLaws.{one_index}
 use Rattle.test_definitions.proofs.OneState.{AsPictured, as_pictured}
-use Rattle.test_definitions.proofs.ReachedFrozenLaws.{StandsAt}
 use Rattle.test_definitions.proofs.RootMemberLaws.{IsAmong, each_among, among_right, index_live}
 
 -- a node that is kept, except for its tree words, has the same entry

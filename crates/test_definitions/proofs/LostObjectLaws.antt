@@ -1,6 +1,6 @@
 -- An image that lost objects that no value owns, with the frozen objects to which no other cell points. Its
 -- index may have changed. All other objects stay.
-use Rattle.std.proofs.Common.{◌≡◌, ◌≢◌, ℕ, zero, suc, ◌+◌, ◌≤◌, ◌⊎◌, inl, inr, Bool, true, false, List, [], ◌∷◌, ◌++◌, map, Option, Some, None, refl, sym, ap, ◌∙◌, subst, arith}
+use Rattle.std.proofs.Common.{◌≡◌, ◌≢◌, ℕ, ◌+◌, ◌≤◌, ◌⊎◌, inl, inr, List, [], ◌∷◌, ◌++◌, map, Option, Some, None, refl, sym, ap, ◌∙◌, subst, arith}
 use Rattle.std.specs.Prelude.{is_some}
 use Rattle.std.specs.List.{AllByRecursion}
 use Rattle.std.proofs.lemmas.Bool.{cases_eq}
@@ -14,7 +14,7 @@ use Rattle.seg_spec.specs.Reads.{Place}
 use Rattle.seg_spec.specs.Index.{Root, AreAscending, AreRising, root_named, root_of_type}
 use Rattle.seg_spec.specs.Frozen.{Frozen, root_of_frozen, blocks_by}
 use Rattle.seg_spec.specs.Shared.{names_in, IsBelow, IsCounted, left, freed}
-use Rattle.seg_spec.specs.Sound.{Picture, IsPlain, HoldsRoot, HoldsRoots, times, positions}
+use Rattle.seg_spec.specs.Sound.{IsPlain, HoldsRoot, HoldsRoots, times, positions}
 use Rattle.seg_spec.specs.Counting.{cells_in, owners_in}
 use Rattle.seg_spec.specs.Destroying.{HoldFrozen}
 use Rattle.seg_spec.specs.Demand.{after_gives}

@@ -1,6 +1,6 @@
 -- Rows that destroy one object: two situations that clients can't tell apart stay so if both destroy the same
 -- one.
-use Rattle.std.proofs.Common.{◌≡◌, ℕ, ◌+◌, ◌≤◌, inl, inr, false, List, [], ◌∷◌, ◌++◌, length, Some, None, refl, sym, ap, ◌∙◌, subst, arith}
+use Rattle.std.proofs.Common.{◌≡◌, ℕ, ◌+◌, ◌≤◌, ◌⊎◌, inl, inr, false, List, [], ◌∷◌, ◌++◌, length, Option, Some, refl, sym, ap, ◌∙◌, subst, arith}
 use Rattle.std.specs.List.{AllByRecursion}
 use Rattle.std.proofs.lemmas.List.{append-nil}
 use Rattle.seg_spec.specs.Bytes.{word}
@@ -18,25 +18,26 @@ use Rattle.seg_spec.specs.Demand.{after_asks, after_gives}
 use Rattle.seg_spec.specs.Roots.{KeepsNodes}
 use Rattle.seg_spec.specs.Shapes.{tree_words}
 use Rattle.seg_spec.specs.Spending as spending
-use Rattle.seg_spec.proofs.Heap.LiveBlockLaws.{live-once}
+use Rattle.seg_spec.proofs.Heap.LiveBlockLaws.{times-append, live-once}
 use Rattle.seg_spec.proofs.Images.RootLaws.{HoldsRoots-one}
 use Rattle.client_spec.specs.Syntax.{Constant, Instruction}
 use Rattle.client_spec.specs.Machine.{State}
 use Rattle.client_spec.specs.Answer.{success}
 use Rattle.client_spec.specs.Pictures.{Pictures}
-use Rattle.client_spec.specs.Asks.{GrantsAsks}
-use Rattle.client_spec.specs.Ties.{places_of, OfFrozen, next_after}
+use Rattle.client_spec.specs.Asks.{RootGoes, GrantsAsks}
+use Rattle.client_spec.specs.Ties.{Spot, nowhere, places_of, Both, OfRoot, OfFrozen, TouchesBy, Changes, next_after}
 use Rattle.client_spec.specs.OnImages.{Move, Situation, RowOn}
 use Rattle.test_definitions.specs.Alike.{AreAlike, StandAlike, StaysAlike}
 use Rattle.test_definitions.proofs.ChangedPlaceLaws.{holds_one}
 use Rattle.test_definitions.proofs.EndedImageLaws.{frozen_by}
 use Rattle.test_definitions.proofs.FrozenApartLaws.{frozen_apart}
 use Rattle.test_definitions.proofs.FrozenOrderLaws.{IsOneOf, each_of}
+use Rattle.test_definitions.proofs.KeptImageLaws.{whole}
 use Rattle.test_definitions.proofs.KeptRowLaws.{owned_kept, one}
 use Rattle.test_definitions.proofs.LostObjectLaws.{KeepsRest, LosesObjects}
 use Rattle.test_definitions.proofs.LostAlikeLaws.{lost_alike}
 use Rattle.test_definitions.proofs.OwningRegisterLaws.{moves_owners}
-use Rattle.test_definitions.proofs.PlaceStepLaws.{tables_stay, kinds_stay}
+use Rattle.test_definitions.proofs.PlaceStepLaws.{tables_stay, kinds_stay, nothing_changes}
 use Rattle.test_definitions.proofs.RootMemberLaws.{IsAmong, each_among, among_right, owns}
 
 -- what is freed with the object, and what is kept
@@ -100,6 +101,37 @@ module _ (constants : List Constant) (others : List Root) (moves : List Move) (i
       let same = ap (times h) (holds_one x.image p.picture.table d hold o.holds_it) in
       let once = live-once x.image (word x.image allocator_word) p.held.laid_out.heap h in
       (omega (arith, some, a.counts h), omega (arith, some, a.counts h, once, o.fewer h, same), omega (arith, some, a.counts h, once))
+
+  -- an object that is destroyed with nothing else than frozen objects: what the row returns and what it may change are those of a root
+  pub root_destroyed : (g : GrantsAsks constants i r.before.pictured y.image) → g.asks ≡ [] → (o : Option Root) → RootGoes constants i r.before.pictured o g.gives
+      → ((spot : Spot) (own : List ℕ) → TouchesBy constants i r.before.pictured i.operation spot own → (spot ≡ nowhere) × Both (OfRoot r.before.pictured o) (OfFrozen r.before.pictured) own)
+      → (d : Root) → o ≡ Some d → IsAmong d (owners_in r.before.pictured.picture) → Destroys r.before.pictured y.image d
+  root_destroyed g none o goes touches d found among =
+      let own = subst (λ z. RootGoes constants i p z g.gives) found goes in
+      record {
+        its = own.0;
+        holds_it = held_here d own.0 own.1;
+        entries = [];
+        of_index = λ h. omega arith;
+        shared = own.2.0;
+        freeing = own.2.1;
+        returned = only_given constants i p y.image g none ∙ ap (after_gives (live x.image)) (own.2.2 ∙ ap (λ xs. xs ++ own.2.0) (sym (append-nil own.0)));
+        kept = λ h some none no_index none_frozen. whole x.image y.image h (around own.0 (held_here d own.0 own.1) h some none none_frozen);
+        nodes = λ tree h some now. (let a = index_apart d own.0 among (held_here d own.0 own.1) h some in around_node x.image y.image h (around own.0 (held_here d own.0 own.1) h a.0 a.1 a.2));
+      }
+    where
+      around : (its : List ℕ) → HoldsRoot x.image r.before.pictured.picture.table d its → (h : ℕ) → 1 ≤ times h (positions (live x.image)) → times h its ≡ 0
+          → times h (frozen_apart x.image r.before.pictured.picture r.before.pictured.held).frozen ≡ 0 → KeepsBlockAround x.image y.image 0 0 h
+      around its hold h some none none_frozen = by r.ties.changes
+        where
+          by : (y.image ≡ x.image) ⊎ Changes constants i r.before.pictured y.image → KeepsBlockAround x.image y.image 0 0 h
+          by (inl e) = nothing_changes x.image y.image p.picture p.held nowhere [] e h some refl
+          by (inr c) =
+              let t = touches c.spot c.own c.touches in
+              let mine = holds_one x.image p.picture.table d (held_here d t.1.0 (subst (λ z. OfRoot p z t.1.0) found t.1.2)) hold in
+              let theirs = frozen_are t.1.1 t.1.3 in
+              let none_own : times h c.own ≡ 0 = omega (arith, none, none_frozen, ap (times h) mine, ap (times h) theirs, ap (times h) t.1.4, times-append h t.1.0 t.1.1) in
+              subst (λ (z : Spot). KeepsBlockAround x.image y.image z.at z.bytes h) t.0 (c.kept h some none_own)
 
   module _ (d : Root) (k : Destroys r.before.pictured y.image d) (front back : List Root) (owners_were : owners_in r.before.pictured.picture ≡ front ++ d ∷ back) where
     pub keeps : KeepsRest r.before.pictured r.after.pictured front (d ∷ []) back
