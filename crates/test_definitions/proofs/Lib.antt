@@ -40,7 +40,6 @@ pub mod AlikeKeptLaws
 pub mod AlikeTypesLaws
 pub mod AlikeFirstLaws
 pub mod OneOutcomeLaws
-pub mod IndexKeptLaws
 pub mod FrozenStayLaws
 pub mod FrozenApartLaws
 pub mod FrozenAllStayLaws

@@ -11,6 +11,7 @@ use Rattle.seg_spec.specs.Heap.{live}
 use Rattle.seg_spec.specs.Block.{KeepsBlock, block_of}
 use Rattle.seg_spec.specs.Apart.{KeepsBlockAround}
 use Rattle.seg_spec.specs.Reads.{Place}
+use Rattle.seg_spec.specs.Shapes.{tree_words}
 use Rattle.seg_spec.specs.Index.{Root, AreAscending, AreRising, root_named, root_of_type}
 use Rattle.seg_spec.specs.Frozen.{Frozen, root_of_frozen, blocks_by}
 use Rattle.seg_spec.specs.Shared.{names_in, IsBelow, IsCounted, left, freed}
@@ -45,6 +46,10 @@ use Rattle.test_definitions.proofs.RootMemberLaws.{IsAmong, each_among, among_le
 each_object : (P : Frozen → Type 0) (fs : List Frozen) → ((f : Frozen) → IsOneOf f fs → P f) → AllByRecursion P fs
 each_object P [] a = tt
 each_object P (f ∷ fs) a = (a f (inl refl), each_object P fs (λ g i. a g (inr i)))
+
+-- a block of which all bytes are kept
+pub around_node : (old new : List ℕ) (h : ℕ) → KeepsBlockAround old new 0 0 h → KeepsBlockAround old new (h + 16) tree_words h
+around_node old new h k = record { solid = k.solid; header = k.header; payload = λ g m low high apart. k.payload g m low high (inr (omega arith)) }
 
 module _ {others : List Root} {s t : State} {old new : List ℕ} (p : Pictures others s old) (p' : Pictures others t new) (front gone back : List Root) where
   -- ---- the objects that stay
@@ -126,7 +131,9 @@ module _ {others : List Root} {s t : State} {old new : List ℕ} (p : Pictures o
         → ((T : ℕ) (c e : Root) → root_of_type rs T ≡ Some c → root_of_type p'.picture.uniques T ≡ Some e → HasFace c e) → p'.picture.uniques ≡ rs
     uniques_stay rs among rising as_many faces = types_listed 0 0 p'.picture.uniques rs p'.held.laid_out.uniques.rising rising
         (λ T. one_found (root_of_type p'.picture.uniques T) (root_of_type rs T) (as_many T)
-        (λ e c f g. faced_one c e (among c (of_type rs T c g)) (among_right e p'.picture.names (p'.picture.uniques ++ p'.picture.loose) (among_left e p'.picture.uniques p'.picture.loose (of_type p'.picture.uniques T e f))) (faces T c e g f)))
+        (λ e c f g. (
+            let unique = among_left e p'.picture.uniques p'.picture.loose (of_type p'.picture.uniques T e f) in
+            faced_one c e (among c (of_type rs T c g)) (among_right e p'.picture.names (p'.picture.uniques ++ p'.picture.loose) unique) (faces T c e g f))))
 
     owned_loose : (e : Root) → IsAmong e p'.owned → IsAmong e p'.picture.loose
     owned_loose e j = subst (IsAmong e) (sym p'.loose) (among_right e others p'.owned j)

@@ -1,6 +1,6 @@
 -- Rows that destroy one object: two situations that clients can't tell apart stay so if both destroy the same
 -- one.
-use Rattle.std.proofs.Common.{◌≡◌, ℕ, ◌+◌, ◌≤◌, ◌⊎◌, inl, inr, false, List, [], ◌∷◌, ◌++◌, length, Option, Some, refl, sym, ap, ◌∙◌, subst, arith}
+use Rattle.std.proofs.Common.{◌≡◌, ℕ, ◌≤◌, ◌⊎◌, inl, inr, false, List, [], ◌∷◌, ◌++◌, length, Option, Some, refl, sym, ap, ◌∙◌, subst, arith}
 use Rattle.std.specs.List.{AllByRecursion}
 use Rattle.std.proofs.lemmas.List.{append-nil}
 use Rattle.seg_spec.specs.Bytes.{word}
@@ -16,7 +16,6 @@ use Rattle.seg_spec.specs.Sound.{IsPlain, HoldsRoot, times, positions}
 use Rattle.seg_spec.specs.Counting.{owners_in, FrozenGone}
 use Rattle.seg_spec.specs.Demand.{after_asks, after_gives}
 use Rattle.seg_spec.specs.Roots.{KeepsNodes}
-use Rattle.seg_spec.specs.Shapes.{tree_words}
 use Rattle.seg_spec.specs.Spending as spending
 use Rattle.seg_spec.proofs.Heap.LiveBlockLaws.{times-append, live-once}
 use Rattle.seg_spec.proofs.Images.RootLaws.{HoldsRoots-one}
@@ -34,7 +33,7 @@ use Rattle.test_definitions.proofs.FrozenApartLaws.{frozen_apart}
 use Rattle.test_definitions.proofs.FrozenOrderLaws.{IsOneOf, each_of}
 use Rattle.test_definitions.proofs.KeptImageLaws.{whole}
 use Rattle.test_definitions.proofs.KeptRowLaws.{owned_kept, one}
-use Rattle.test_definitions.proofs.LostObjectLaws.{KeepsRest, LosesObjects}
+use Rattle.test_definitions.proofs.LostObjectLaws.{around_node, KeepsRest, LosesObjects}
 use Rattle.test_definitions.proofs.LostAlikeLaws.{lost_alike}
 use Rattle.test_definitions.proofs.OwningRegisterLaws.{moves_owners}
 use Rattle.test_definitions.proofs.PlaceStepLaws.{tables_stay, kinds_stay, nothing_changes}
@@ -61,10 +60,6 @@ only_given constants i {old = old} p new g none =
     let done : Some (live old) ≡ Some g.blocks = subst (λ as'. after_asks A (live old) (length old) as' ≡ Some g.blocks) none g.granted in
     let blocks : live old ≡ g.blocks = cc in
     g.left ∙ (λ j. after_gives (sym blocks j) (spending.replaced A (live old) (length old) (none j) ++ g.gives))
-
--- a block that is kept around no bytes
-pub around_node : (old new : List ℕ) (h : ℕ) → KeepsBlockAround old new 0 0 h → KeepsBlockAround old new (h + 16) tree_words h
-around_node old new h k = record { solid = k.solid; header = k.header; payload = λ g m low high apart. k.payload g m low high (inr (omega arith)) }
 
 -- ---- one row
 
@@ -102,7 +97,7 @@ module _ (constants : List Constant) (others : List Root) (moves : List Move) (i
       let once = live-once x.image (word x.image allocator_word) p.held.laid_out.heap h in
       (omega (arith, some, a.counts h), omega (arith, some, a.counts h, once, o.fewer h, same), omega (arith, some, a.counts h, once))
 
-  -- an object that is destroyed with nothing else than frozen objects: what the row returns and what it may change are those of a root
+  -- a row that destroys an object, frees frozen objects, and changes nothing else
   pub root_destroyed : (g : GrantsAsks constants i r.before.pictured y.image) → g.asks ≡ [] → (o : Option Root) → RootGoes constants i r.before.pictured o g.gives
       → ((spot : Spot) (own : List ℕ) → TouchesBy constants i r.before.pictured i.operation spot own → (spot ≡ nowhere) × Both (OfRoot r.before.pictured o) (OfFrozen r.before.pictured) own)
       → (d : Root) → o ≡ Some d → IsAmong d (owners_in r.before.pictured.picture) → Destroys r.before.pictured y.image d

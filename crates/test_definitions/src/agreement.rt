@@ -69,8 +69,8 @@ pub fn one_outcome()
         ending_after lefts ≢ stopped → ending_after others ≢ stopped → AllAgree lefts others }
 {}
 
-/// Situations stay alike after every instruction but MAKE, FINDOR, KILL, UKILL, PUT, TAKE, POP, DELK and FREEZE. So `one_outcome` needs
-/// no premise for clients without these nine.
+/// Situations stay alike after every instruction but MAKE, FINDOR, PUT, TAKE, POP, DELK and FREEZE. So `one_outcome` needs no premise
+/// for clients without these seven.
 pub fn settled_instructions()
     ensures instruction { (i : Instruction) → settles i ≡ true → StayAlike i }
     ensures code { (code : Statements) →
