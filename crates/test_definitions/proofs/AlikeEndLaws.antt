@@ -1,43 +1,46 @@
--- Runs that end alike leave images that are alike.
-use Rattle.std.proofs.Common.{◌≡◌, ℕ, ◌+◌, ◌≤◌, inl, inr, List, [], ◌∷◌, ◌++◌, drop, map, refl, sym, ap, ◌∙◌, subst, arith}
+-- The objects that registers own are destroyed at the end of a run. So runs that end alike leave images that
+-- are alike.
+use Rattle.std.specs.Prelude.{is_some, option_and_then}
+use Rattle.std.proofs.Common.{◌≡◌, ℕ, ◌≤◌, List, [], ◌∷◌, ◌++◌, Option, Some, None, option_map, refl, sym, ap, ◌∙◌, subst, arith, append_assoc}
 use Rattle.std.specs.List.{AllByRecursion}
 use Rattle.std.proofs.lemmas.List.{append-nil}
 use Rattle.seg_spec.specs.Bytes.{word}
-use Rattle.seg_spec.specs.Header.{allocator_word, next_word}
-use Rattle.seg_spec.specs.Types.{Table, IsTable}
+use Rattle.seg_spec.specs.Header.{allocator_word, next_word, index_kind_word}
+use Rattle.seg_spec.specs.Types.{Table}
+use Rattle.seg_spec.specs.Value.{Value, nth}
 use Rattle.seg_spec.specs.Heap.{live}
-use Rattle.seg_spec.specs.Block.{KeepsBlock, block_of}
-use Rattle.seg_spec.specs.Reads.{items}
-use Rattle.seg_spec.specs.Index.{Root}
+use Rattle.seg_spec.specs.Block.{block_of}
+use Rattle.seg_spec.specs.Apart.{KeepsBlockAround}
+use Rattle.seg_spec.specs.Index.{Root, root_named, root_of_type}
 use Rattle.seg_spec.specs.Frozen.{Frozen, root_of_frozen, blocks_by}
-use Rattle.seg_spec.specs.Shared.{IsCounted, freed}
-use Rattle.seg_spec.specs.Roots.{SamePicture}
-use Rattle.seg_spec.specs.Sound.{Picture, IsHeld, payload_of, frozen_roots, roots_of, HoldsRoot, HoldsRoots, holds_no_root, holds_more_roots, times, SameBlocks, positions}
+use Rattle.seg_spec.specs.Shared.{freed, replaced}
+use Rattle.seg_spec.specs.Roots.{KeepsNodes}
+use Rattle.seg_spec.specs.Sound.{Picture, IsHeld, IsPlain, payload_of, HoldsRoot, HoldsRoots, holds_no_root, holds_more_roots, times, SameBlocks, positions}
 use Rattle.seg_spec.specs.Counting.{cells_in, AreCounted}
 use Rattle.seg_spec.specs.Demand.{after_gives}
 use Rattle.seg_spec.proofs.Heap.FreeOrderLaws.{in_any_order}
-use Rattle.seg_spec.proofs.Heap.LiveBlockLaws.{times-append}
+use Rattle.seg_spec.proofs.Heap.LiveBlockLaws.{times-append, live-once}
+use Rattle.seg_spec.proofs.SliceLaws.{IsSame-part}
 use Rattle.seg_spec.proofs.Values.OneValueLaws.{HoldsEach-one}
-use Rattle.seg_spec.proofs.Values.PlaceFrameLaws.{SamePlace, each_left, each_right}
-use Rattle.seg_spec.proofs.Images.LooseRootLaws.{each_joined}
-use Rattle.client_spec.specs.Machine.{State}
+use Rattle.seg_spec.proofs.Values.PlaceFrameLaws.{word-same, each_left}
+use Rattle.client_spec.specs.Machine.{Object, State}
 use Rattle.client_spec.specs.OnImages.{Move, Situation, Given, Left, IsLeftAfter}
-use Rattle.client_spec.specs.Pictures.{names_in, uniques_in, Pictures}
-use Rattle.client_sim.proofs.Names.OnePictureLaws.{Held-one}
-use Rattle.test_definitions.specs.Alike.{AlikeEach, AlikeRoot, AreAlike, StandAlike}
+use Rattle.client_spec.specs.Pictures.{names_in, uniques_in, object_of, meaning_in, Pictures}
+use Rattle.client_spec.specs.Ties.{places_of}
+use Rattle.client_spec.specs.Trees.{unfolded_object}
+use Rattle.test_definitions.specs.Alike.{AlikeRoot, AreAlike, StandAlike}
 use Rattle.test_definitions.proofs.AlikePlaceLaws.{each_alike}
-use Rattle.test_definitions.proofs.AlikeKeptLaws.{each_kept, roots_kept}
-use Rattle.test_definitions.proofs.AlikeFirstLaws.{frozen_order}
-use Rattle.test_definitions.proofs.EndedImageLaws as ended
-use Rattle.test_definitions.proofs.FrozenContentLaws.{inside_kept, value_same}
+use Rattle.test_definitions.proofs.AlikeRootLaws.{of_type}
+use Rattle.test_definitions.proofs.EndedImageLaws.{frozen_by}
+use Rattle.test_definitions.proofs.FrozenApartLaws.{frozen_apart}
 use Rattle.test_definitions.proofs.FrozenOrderLaws.{IsOneOf, each_of}
-use Rattle.test_definitions.proofs.FrozenStayLaws.{Found, then_same, counted_same}
-use Rattle.test_definitions.proofs.ReachedFrozenLaws.{StandsAt}
-use Rattle.test_definitions.proofs.AlikePictureLaws.{held_as}
-use Rattle.test_definitions.proofs.OneFrozenLaws.{Reordered, reordered, among_frozen, in_both, is_there, freed_blocks}
-use Rattle.test_definitions.proofs.OneReturnLaws.{one_index}
+use Rattle.test_definitions.proofs.GrownImageLaws.{frozen_in, owner_in}
+use Rattle.test_definitions.proofs.KeptImageLaws.{whole}
+use Rattle.test_definitions.proofs.LostObjectLaws.{around_node, KeepsRest, LosesObjects, rest, names_stay, uniques_stay}
+use Rattle.test_definitions.proofs.LostAlikeLaws.{was_alike, order, each_root, lost_alike}
+use Rattle.test_definitions.proofs.OneFrozenLaws.{freed_blocks}
 use Rattle.test_definitions.proofs.OneState.{AsPictured, as_pictured}
-use Rattle.test_definitions.proofs.RootMemberLaws.{each_among, among_right}
+use Rattle.test_definitions.proofs.RootMemberLaws.{IsAmong, each_among, among_left, among_right}
 
 -- roots that are alike own the same blocks
 module _ (first second : List ℕ) (table : Table) where
@@ -48,9 +51,6 @@ module _ (first second : List ℕ) (table : Table) where
   roots_theirs holds_no_root holds_no_root a = refl
   roots_theirs (holds_more_roots {root = root} {blocks = xs} {rest = more} h hs) (holds_more_roots {blocks = ys} {rest = more_too} k ks) a =
       ap (λ zs. zs ++ more) (root_theirs root xs ys h k a.0) ∙ ap (λ zs. ys ++ zs) (roots_theirs hs ks a.1)
-
-tail_is : (x y : ℕ) (xs ys : List ℕ) → ◌≡◌ {A = List ℕ} (x ∷ xs) (y ∷ ys) → xs ≡ ys
-tail_is x y xs ys e = ap (drop 1) e
 
 -- a state that the image pictures, without registers
 abbrev state_of : Picture → State
@@ -68,6 +68,115 @@ pictured others bytes picture held counted loose = record {
   are_owned = tt;
   loose = loose ∙ sym (append-nil others);
 }
+
+-- ---- one image
+
+mapped : {A B : Type 0} (f : A → B) (o : Option A) → is_some (option_map f o) ≡ is_some o
+mapped f None = refl
+mapped f (Some a) = refl
+
+-- a unique object has a value
+unique_value : (r : Picture) → AllByRecursion IsPlain r.uniques → (T : ℕ) → is_some (option_and_then (λ (root : Root). nth root.values 0) (root_of_type r.uniques T)) ≡ is_some (root_of_type r.uniques T)
+unique_value r plain T = go (root_of_type r.uniques T) refl
+  where
+    go : (o : Option Root) → root_of_type r.uniques T ≡ o → is_some (option_and_then (λ (root : Root). nth root.values 0) o) ≡ is_some o
+    go None e = refl
+    go (Some root) e = ap (λ vs. is_some (nth vs 0)) (each_among IsPlain root r.uniques (of_type r.uniques T root e) plain).values_are
+
+module _ (given : Given) (x : Situation) (left_is : Left) (e : IsLeftAfter given x left_is) where
+  abbrev before : Pictures given.others e.trees.plain x.image
+  before = e.trees.pictured
+
+  abbrev was : Picture
+  was = e.trees.pictured.picture
+
+  abbrev after : Pictures given.others (state_of e.picture) left_is.image
+  after = pictured given.others left_is.image e.picture e.held e.counted e.loose
+
+  abbrev front : List Root
+  front = e.trees.pictured.picture.names ++ (e.trees.pictured.picture.uniques ++ given.others)
+
+  abbrev owned : List Root
+  owned = e.trees.pictured.owned
+
+  tables : e.trees.pictured.picture.table ≡ x.state.types
+  tables = before.types ∙ sym (ap (λ (s : State). s.types) e.trees.trees)
+
+  frozen_are : (frozen_apart x.image e.trees.pictured.picture e.trees.pictured.held).frozen ≡ blocks_by e.shared.theirs e.trees.pictured.picture.frozen
+  frozen_are = (let a = frozen_apart x.image was before.held in frozen_by x.image was.table e.shared.theirs was.frozen a.frozen a.holds_frozen e.shared.holds)
+
+  around : (h : ℕ) → 1 ≤ times h (positions (live x.image)) → times h e.owned_blocks ≡ 0 → times h (frozen_apart x.image e.trees.pictured.picture e.trees.pictured.held).frozen ≡ 0 → KeepsBlockAround x.image left_is.image 0 0 h
+  around h some none none_frozen = e.kept h some (omega (arith, none, none_frozen, ap (times h) frozen_are, times-append h e.owned_blocks (blocks_by e.shared.theirs was.frozen)))
+
+  grouped : (a b c f : List Root) → a ++ (b ++ (c ++ f)) ≡ (a ++ (b ++ c)) ++ f
+  grouped a b c f = simp append_assoc
+
+  abbrev keeps : KeepsRest before after front owned []
+  keeps = record {
+    tables = e.types ∙ sym tables;
+    owners_were = ap (λ rs. was.names ++ (was.uniques ++ rs)) before.loose ∙ grouped was.names was.uniques given.others before.owned ∙ ap (λ rs. front ++ rs) (sym (append-nil before.owned));
+    its = e.owned_blocks;
+    holds_them = subst (λ (t : Table). HoldsRoots x.image t before.owned e.owned_blocks) (sym tables) e.owned;
+    kept = λ h some none no_index none_frozen. whole x.image left_is.image h (around h some none none_frozen);
+  }
+
+  pub names_same : e.picture.names ≡ e.trees.pictured.picture.names
+  names_same = names_stay before after front owned [] keeps was.names (λ c j. among_left c front [] (among_left c was.names (was.uniques ++ given.others) j)) before.held.laid_out.names.ascending as_many e.objects_stay.names
+    where
+      m : ℕ → Value
+      m = meaning_in (word x.image next_word) e.trees.pictured.picture
+
+      m' : ℕ → Value
+      m' = meaning_in (word left_is.image next_word) e.picture
+
+      as_many : (name : List ℕ) → is_some (root_named e.picture.names name) ≡ is_some (root_named e.trees.pictured.picture.names name)
+      as_many name =
+          sym (mapped object_of (root_named e.picture.names name)) ∙ sym (mapped (unfolded_object m') (names_in e.picture name)) ∙ sym (ap (λ (o : Option Object). is_some o) (e.objects.names name))
+          ∙ ap (λ (s : State). is_some (s.names name)) e.trees.trees ∙ mapped (unfolded_object m) (e.trees.plain.names name) ∙ ap (λ (o : Option Object). is_some o) (before.names name) ∙ mapped object_of (root_named was.names name)
+
+  pub uniques_same : e.picture.uniques ≡ e.trees.pictured.picture.uniques
+  uniques_same = uniques_stay before after front owned [] keeps was.uniques
+      (λ c j. among_left c front [] (among_right c was.names (was.uniques ++ given.others) (among_left c was.uniques given.others j))) before.held.laid_out.uniques.rising as_many e.objects_stay.uniques
+    where
+      m : ℕ → Value
+      m = meaning_in (word x.image next_word) e.trees.pictured.picture
+
+      m' : ℕ → Value
+      m' = meaning_in (word left_is.image next_word) e.picture
+
+      as_many : (T : ℕ) → is_some (root_of_type e.picture.uniques T) ≡ is_some (root_of_type e.trees.pictured.picture.uniques T)
+      as_many T =
+          sym (unique_value e.picture (each_left IsPlain e.picture.uniques e.picture.loose e.held.laid_out.plain) T) ∙ sym (mapped (replaced m') (uniques_in e.picture T)) ∙ sym (ap (λ (o : Option Value). is_some o) (e.objects.uniques T))
+          ∙ ap (λ (s : State). is_some (s.uniques T)) e.trees.trees ∙ mapped (replaced m) (e.trees.plain.uniques T) ∙ ap (λ (o : Option Value). is_some o) (before.uniques T)
+          ∙ unique_value was (each_left IsPlain was.uniques was.loose before.held.laid_out.plain) T
+
+  nodes : KeepsNodes x.image left_is.image e.trees.pictured.held.index_blocks
+  nodes tree h some now =
+      let n = (rest before after front owned [] keeps).counts h in
+      let once = live-once x.image (word x.image allocator_word) before.held.laid_out.heap h in
+      around_node x.image left_is.image h (around h (omega (arith, n, some)) (omega (arith, n, once, some)) (omega (arith, n, once, some)))
+
+  pub loses : LosesObjects before after front owned []
+  loses = record {
+    keeps = keeps;
+    owners_are = (λ j. names_same j ++ (uniques_same j ++ e.loose j)) ∙ sym (append-nil front);
+    theirs = e.shared.theirs;
+    holds = e.shared.holds;
+    entries = [];
+    of_index = λ h. omega arith;
+    returned = e.returned ∙ (λ j. after_gives (live x.image) (append-nil-back j ++ e.shared.blocks_are j));
+    nodes = nodes;
+    frozen_kept = λ f g f_in g_in at. subst (λ n. AllByRecursion (KeepsBlockAround x.image left_is.image n 4) (e.shared.theirs n)) at
+        (each_of (λ (k : Frozen). AllByRecursion (KeepsBlockAround x.image left_is.image k.at 4) (e.shared.theirs k.at)) g e.picture.frozen g_in e.frozen_kept);
+  }
+    where
+      append-nil-back : e.owned_blocks ≡ e.owned_blocks ++ []
+      append-nil-back = sym (append-nil e.owned_blocks)
+
+  pub kinds_stay : word left_is.image index_kind_word ≡ word x.image index_kind_word
+  kinds_stay = word-same x.image left_is.image index_kind_word (IsSame-part x.image left_is.image 0 24 index_kind_word 4 (omega arith) (omega arith) e.header_kept)
+
+-- ---- both images
 
 module _ (others : List Root) (moves moves_too : List Move) (base base_too : ℕ) (input input_too image image_too host host_too : List ℕ) (x z : Situation) (left_is other_is : Left) (stand : StandAlike others x z) where
   abbrev given : Given
@@ -89,70 +198,42 @@ module _ (others : List Root) (moves moves_too : List Move) (base base_too : ℕ
     abbrev table : Table
     table = e.trees.pictured.picture.table
 
+    at_too : places_of f.trees.pictured.owned ≡ x.owned
+    at_too = f.owned_are ∙ stand.owned
+
     pictures : AsPictured p q
-    pictures = (as_pictured others x.owned x.image z.image a p q e.owned_are (f.owned_are ∙ stand.owned)).0
-
-    own : p.owned ≡ a.own
-    own = (as_pictured others x.owned x.image z.image a p q e.owned_are (f.owned_are ∙ stand.owned)).1
-
-    common : SamePicture a.picture p.picture
-    common = Held-one x.image a.picture p.picture a.held p.held
-
-    order : Reordered p.picture.frozen q.picture.frozen
-    order = frozen_order a p.picture q.picture p.held q.held p.counted q.counted
-
-    -- ---- the roots before
-
-    names_alike : AllByRecursion (AlikeRoot x.image z.image table) p.picture.names
-    names_alike = subst (λ t. AllByRecursion (AlikeRoot x.image z.image t) p.picture.names) common.table
-        (subst (AllByRecursion (AlikeRoot x.image z.image a.picture.table)) common.names (each_left (AlikeRoot x.image z.image a.picture.table) a.picture.names (a.picture.uniques ++ (a.picture.loose ++ frozen_roots a.picture)) a.roots))
-
-    after_names : AllByRecursion (AlikeRoot x.image z.image a.picture.table) (a.picture.uniques ++ (a.picture.loose ++ frozen_roots a.picture))
-    after_names = each_right (AlikeRoot x.image z.image a.picture.table) a.picture.names (a.picture.uniques ++ (a.picture.loose ++ frozen_roots a.picture)) a.roots
-
-    uniques_alike : AllByRecursion (AlikeRoot x.image z.image table) p.picture.uniques
-    uniques_alike = subst (λ t. AllByRecursion (AlikeRoot x.image z.image t) p.picture.uniques) common.table
-        (subst (AllByRecursion (AlikeRoot x.image z.image a.picture.table)) common.uniques (each_left (AlikeRoot x.image z.image a.picture.table) a.picture.uniques (a.picture.loose ++ frozen_roots a.picture) after_names))
-
-    loose_alike : AllByRecursion (AlikeRoot x.image z.image table) (others ++ p.owned)
-    loose_alike =
-        let rest = each_right (AlikeRoot x.image z.image a.picture.table) a.picture.uniques (a.picture.loose ++ frozen_roots a.picture) after_names in
-        let mine = each_left (AlikeRoot x.image z.image a.picture.table) a.picture.loose (frozen_roots a.picture) rest in
-        subst (λ t. AllByRecursion (AlikeRoot x.image z.image t) (others ++ p.owned)) common.table (subst (AllByRecursion (AlikeRoot x.image z.image a.picture.table)) (a.loose ∙ ap (λ rs. others ++ rs) (sym own)) mine)
-
-    -- a frozen object before
-    object_alike : (k : Frozen) → IsOneOf k p.picture.frozen → AlikeRoot x.image z.image table (root_of_frozen k)
-    object_alike k i =
-        let r = a.picture in
-        let there = in_both x.image p.picture a.picture p.held a.held k i in
-        let root = root_of_frozen k in
-        let among = among_right root r.names (r.uniques ++ (r.loose ++ frozen_roots r)) (among_right root r.uniques (r.loose ++ frozen_roots r) (among_right root r.loose (frozen_roots r) (among_frozen k r.frozen there))) in
-        subst (λ t. AlikeRoot x.image z.image t (root_of_frozen k)) common.table (each_among (AlikeRoot x.image z.image r.table) (root_of_frozen k) (roots_of r) among a.roots)
+    pictures = (as_pictured others x.owned x.image z.image a p q e.owned_are at_too).0
 
     -- ---- the allocated blocks
 
     types_x : x.state.types ≡ table
-    types_x = ap (λ (s : State). s.types) e.trees.trees ∙ sym p.types
+    types_x = sym (tables given x left_is e)
 
     types_z : z.state.types ≡ table
     types_z = ap (λ (s : State). s.types) stand.states ∙ types_x
+
+    owned_alike : AllByRecursion (AlikeRoot x.image z.image table) p.owned
+    owned_alike = each_root (AlikeRoot x.image z.image table) p.owned (λ c j. (
+        let loose = subst (IsAmong c) (sym p.loose) (among_right c others p.owned j) in
+        was_alike a p q e.owned_are at_too c (owner_in p.picture c (among_right c p.picture.names (p.picture.uniques ++ p.picture.loose) (among_right c p.picture.uniques p.picture.loose loose)))))
 
     owned_blocks : e.owned_blocks ≡ f.owned_blocks
     owned_blocks =
         let mine = subst (λ t. HoldsRoots x.image t p.owned e.owned_blocks) types_x e.owned in
         let theirs = subst (λ rs. HoldsRoots z.image table rs f.owned_blocks) (sym pictures.owned) (subst (λ t. HoldsRoots z.image t q.owned f.owned_blocks) types_z f.owned) in
-        roots_theirs x.image z.image table mine theirs (each_right (AlikeRoot x.image z.image table) others p.owned loose_alike)
+        roots_theirs x.image z.image table mine theirs owned_alike
 
     object_blocks : (k : Frozen) → IsOneOf k q.picture.frozen → e.shared.theirs k.at ≡ f.shared.theirs k.at
     object_blocks k i =
-        let mine = each_of (λ (g : Frozen). HoldsRoot x.image table (root_of_frozen g) (e.shared.theirs g.at)) k p.picture.frozen (order.back k i) e.shared.holds in
+        let in_p = (order a p q e.owned_are at_too).back k i in
+        let mine = each_of (λ (g : Frozen). HoldsRoot x.image table (root_of_frozen g) (e.shared.theirs g.at)) k p.picture.frozen in_p e.shared.holds in
         let theirs = each_of (λ (g : Frozen). HoldsRoot z.image q.picture.table (root_of_frozen g) (f.shared.theirs g.at)) k q.picture.frozen i f.shared.holds in
         root_theirs x.image z.image table (root_of_frozen k) (e.shared.theirs k.at) (f.shared.theirs k.at) mine (subst (λ t. HoldsRoot z.image t (root_of_frozen k) (f.shared.theirs k.at)) (sym pictures.same.table) theirs)
-        (object_alike k (order.back k i))
+        (was_alike a p q e.owned_are at_too (root_of_frozen k) (frozen_in p.picture k in_p))
 
     same_freed : SameBlocks (f.owned_blocks ++ f.shared_blocks) (e.owned_blocks ++ e.shared_blocks)
     same_freed h =
-        let shared = freed_blocks [] (cells_in p.owned) p.picture.frozen q.picture.frozen e.shared.theirs f.shared.theirs order object_blocks h in
+        let shared = freed_blocks [] (cells_in p.owned) p.picture.frozen q.picture.frozen e.shared.theirs f.shared.theirs (order a p q e.owned_are at_too) object_blocks h in
         let cells = ap (λ rs. times h (blocks_by f.shared.theirs (freed (cells_in rs) q.picture.frozen))) pictures.owned in
         let mine = ap (times h) e.shared.blocks_are in
         let theirs = ap (times h) f.shared.blocks_are in
@@ -162,173 +243,24 @@ module _ (others : List Root) (moves moves_too : List Move) (base base_too : ℕ
     live_too : live other_is.image ≡ live left_is.image
     live_too = f.returned ∙ ap (λ bs. after_gives bs (f.owned_blocks ++ f.shared_blocks)) a.live_same ∙ in_any_order (live x.image) (f.owned_blocks ++ f.shared_blocks) (e.owned_blocks ++ e.shared_blocks) same_freed ∙ sym e.returned
 
-    -- ---- the roots after
-
-    abbrev first_parts : ended.Parts given x left_is e
-    first_parts = ended.parts given x left_is e
-
-    abbrev second_parts : ended.Parts given_too z other_is f
-    second_parts = ended.parts given_too z other_is f
-
-    valid : IsTable table
-    valid = p.held.laid_out.is_table
-
-    -- roots that both images keep whole
-    stay_alike : (roots roots_too : List Root) (xs ys : List ℕ) → roots_too ≡ roots → HoldsRoots x.image table roots xs → HoldsRoots z.image q.picture.table roots_too ys → AllByRecursion (KeepsBlock x.image left_is.image) xs
-        → AllByRecursion (KeepsBlock z.image other_is.image) ys → AllByRecursion (AlikeRoot x.image z.image table) roots → AllByRecursion (AlikeRoot left_is.image other_is.image table) roots
-    stay_alike roots roots_too xs ys same h k ks ls alike =
-        roots_kept x.image z.image left_is.image other_is.image table valid h (subst (λ rs. HoldsRoots z.image table rs ys) same (subst (λ t. HoldsRoots z.image t roots_too ys) (sym pictures.same.table) k)) ks ls alike
-
-    names_after : AllByRecursion (AlikeRoot left_is.image other_is.image table) p.picture.names
-    names_after = stay_alike p.picture.names q.picture.names first_parts.names second_parts.names (sym pictures.same.names) first_parts.holds_names second_parts.holds_names
-        (ended.names_whole given x left_is e) (ended.names_whole given_too z other_is f) names_alike
-
-    uniques_after : AllByRecursion (AlikeRoot left_is.image other_is.image table) p.picture.uniques
-    uniques_after = stay_alike p.picture.uniques q.picture.uniques first_parts.uniques second_parts.uniques (sym pictures.same.uniques) first_parts.holds_uniques second_parts.holds_uniques (ended.uniques_whole given x left_is e)
-        (ended.uniques_whole given_too z other_is f) uniques_alike
-
-    others_after : AllByRecursion (AlikeRoot left_is.image other_is.image table) others
-    others_after = stay_alike others others first_parts.others second_parts.others refl first_parts.holds_others second_parts.holds_others (ended.others_whole given x left_is e) (ended.others_whole given_too z other_is f)
-        (each_left (AlikeRoot x.image z.image table) others p.owned loose_alike)
-
-    -- ---- frozen objects after
-
-    -- an object that stays in the first image stays in the second
-    in_second : (g : Frozen) → IsOneOf g e.picture.frozen → Found g f.picture.frozen
-    in_second g i =
-        let k = ended.frozen_was given x left_is e g i in
-        let there = is_there left_is.image e.picture e.held g i in
-        let block : 1 ≤ times (block_of k.object.at) (positions (live other_is.image))
-        = subst (λ p. 1 ≤ times (block_of p) (positions (live other_is.image))) (sym k.at_is) (subst (λ bs. 1 ≤ times (block_of g.at) (positions bs)) (sym live_too) there.is_live) in
-        let k_too = order.forth k.object k.among in
-        let s = ended.frozen_stays given_too z other_is f k.object k_too block in
-        record { object = s.object; among = s.among; same = then_same (ended.content given x left_is e k.object g k.among i (sym k.at_is)) (ended.content given_too z other_is f k.object s.object k_too s.among s.at_is) }
-
-    in_first : (g : Frozen) → IsOneOf g f.picture.frozen → Found g e.picture.frozen
-    in_first g i =
-        let k = ended.frozen_was given_too z other_is f g i in
-        let there = is_there other_is.image f.picture f.held g i in
-        let block : 1 ≤ times (block_of k.object.at) (positions (live left_is.image))
-        = subst (λ p. 1 ≤ times (block_of p) (positions (live left_is.image))) (sym k.at_is) (subst (λ bs. 1 ≤ times (block_of g.at) (positions bs)) live_too there.is_live) in
-        let k_too = order.back k.object k.among in
-        let s = ended.frozen_stays given x left_is e k.object k_too block in
-        record { object = s.object; among = s.among; same = then_same (ended.content given_too z other_is f k.object g k.among i (sym k.at_is)) (ended.content given x left_is e k.object s.object k_too s.among s.at_is) }
-
-    same_objects : Reordered e.picture.frozen f.picture.frozen
-    same_objects =
-        let cells : ended.kept_cells given_too z other_is f ≡ ended.kept_cells given x left_is e = λ i. cells_in (sym pictures.same.names i ++ (sym pictures.same.uniques i ++ others)) in
-        let first = ended.counted_after given x left_is e in
-        let second = subst (IsCounted (word other_is.image next_word) f.picture.frozen) cells (ended.counted_after given_too z other_is f) in
-        let kept = ended.kept_cells given x left_is e in
-        record {
-          forth = counted_same (word left_is.image next_word) (word other_is.image next_word) kept e.picture.frozen f.picture.frozen first second in_second in_first;
-          back = counted_same (word other_is.image next_word) (word left_is.image next_word) kept f.picture.frozen e.picture.frozen second first in_first in_second;
-          distinct = e.counted.counted.distinct;
-          falling = e.counted.falling;
-          lower = (reordered left_is.image (word left_is.image next_word) e.picture e.picture e.held e.held e.counted e.counted).lower;
-          distinct_too = f.counted.counted.distinct;
-          falling_too = f.counted.falling;
-        }
-
-    -- an object of the first image before the row
-    module _ (g : Frozen) (i : IsOneOf g e.picture.frozen) where
-      was_at : StandsAt g.at p.picture.frozen
-      was_at = ended.frozen_was given x left_is e g i
-
-      abbrev was : Frozen
-      was = (ended.frozen_was given x left_is e g i).object
-
-      stays_too : StandsAt was.at f.picture.frozen
-      stays_too =
-          let k = ended.frozen_was given x left_is e g i in
-          let there = is_there left_is.image e.picture e.held g i in
-          let block : 1 ≤ times (block_of k.object.at) (positions (live other_is.image))
-          = subst (λ p. 1 ≤ times (block_of p) (positions (live other_is.image))) (sym k.at_is) (subst (λ bs. 1 ≤ times (block_of g.at) (positions bs)) (sym live_too) there.is_live) in
-          ended.frozen_stays given_too z other_is f k.object (order.forth k.object k.among) block
-
-      frozen_after : AlikeRoot left_is.image other_is.image table (root_of_frozen g)
-      frozen_after =
-          let k = ended.frozen_was given x left_is e g i in
-          let s = stays_too in
-          let in_q = order.forth k.object k.among in
-          let at = sym k.at_is in
-          let o = each_of (λ (c : Frozen). HoldsRoot x.image table (root_of_frozen c) (e.shared.theirs c.at)) k.object p.picture.frozen k.among e.shared.holds in
-          let first = ended.there_before given x left_is e k.object g k.among i at in
-          let second = ended.there_before given_too z other_is f k.object s.object in_q s.among s.at_is in
-          let heap = p.held.laid_out.heap in
-          let heap_too = q.held.laid_out.heap in
-          let valid_too = q.held.laid_out.is_table in
-          let owned = ended.its_owned given x left_is e k.object g k.among i at in
-          let owned_too = ended.its_owned given_too z other_is f k.object s.object in_q s.among s.at_is in
-          let around = ended.its_kept given x left_is e k.object g k.among i at in
-          let around_too = ended.its_kept given_too z other_is f k.object s.object in_q s.among s.at_is in
-          let inside = inside_kept (word x.image allocator_word) x.image left_is.image table valid heap k.object (e.shared.theirs k.object.at) first owned around in
-          let inside_too = inside_kept (word z.image allocator_word) z.image other_is.image q.picture.table valid_too heap_too k.object (f.shared.theirs k.object.at) second owned_too around_too in
-          let place = value_same (word x.image allocator_word) x.image left_is.image table valid heap k.object (e.shared.theirs k.object.at) first owned around in
-          let place_too = value_same (word z.image allocator_word) z.image other_is.image q.picture.table valid_too heap_too k.object (f.shared.theirs k.object.at) second owned_too around_too in
-          let there_too = subst (λ t. SamePlace z.image other_is.image t (record { at = k.object.at + 8; type = k.object.type })) (sym pictures.same.table) place_too in
-          let mine : first.inside ≡ o.inside = tail_is _ _ first.inside o.inside (sym first.blocks_are ∙ o.blocks_are) in
-          let theirs : second.inside ≡ o.inside = tail_is _ _ second.inside o.inside (sym second.blocks_are ∙ sym (object_blocks k.object in_q) ∙ o.blocks_are) in
-          let alike = each_kept x.image z.image left_is.image other_is.image table valid o.values (place, tt) (there_too, tt) (subst (AllByRecursion (KeepsBlock x.image left_is.image)) mine inside)
-          (subst (AllByRecursion (KeepsBlock z.image other_is.image)) theirs inside_too) (object_alike k.object k.among) in
-          let same = ended.content given x left_is e k.object g k.among i at in
-          subst (λ (T : ℕ). AlikeEach left_is.image other_is.image table (items table (g.at + 8) T 1)) (sym same.type) (subst (λ n. AlikeEach left_is.image other_is.image table (items table (n + 8) k.object.type 1)) (sym same.at) alike)
-
-    each_object : (gs : List Frozen) → ((g : Frozen) → IsOneOf g gs → AlikeRoot left_is.image other_is.image table (root_of_frozen g)) → AllByRecursion (AlikeRoot left_is.image other_is.image table) (map root_of_frozen gs)
-    each_object [] h = tt
-    each_object (g ∷ gs) h = (h g (inl refl), each_object gs (λ k i. h k (inr i)))
-
     -- ---- the images after
 
-    abbrev now : Picture
-    now = e.picture
+    abbrev now : Pictures others (state_of e.picture) left_is.image
+    now = pictured others left_is.image e.picture e.held e.counted e.loose
 
-    -- the second image has the picture of the first, and the blocks of its own index
-    record HeldNow : Type 0 where
-      held : IsHeld other_is.image now
-      index_is : held.index_blocks ≡ f.held.index_blocks
+    abbrev now_too : Pictures others (state_of f.picture) other_is.image
+    now_too = pictured others other_is.image f.picture f.held f.counted f.loose
 
-    held_now : HeldNow
-    held_now =
-        let first = pictured others left_is.image now e.held e.counted e.loose in
-        let second = pictured others other_is.image f.picture f.held f.counted f.loose in
-        let tables = ended.tables_now given x left_is e ∙ pictures.same.table ∙ sym (ended.tables_now given_too z other_is f) in
-        let names = ended.names_same given x left_is e ∙ pictures.same.names ∙ sym (ended.names_same given_too z other_is f) in
-        let uniques = ended.uniques_same given x left_is e ∙ pictures.same.uniques ∙ sym (ended.uniques_same given_too z other_is f) in
-        let it = held_as first second tables names uniques (e.loose ∙ sym f.loose) same_objects in
-        record { held = it.0; index_is = it.1 }
+    front_same : q.picture.names ++ (q.picture.uniques ++ others) ≡ p.picture.names ++ (p.picture.uniques ++ others)
+    front_same = λ j. sym pictures.same.names j ++ (sym pictures.same.uniques j ++ others)
 
-    index_now : held_now.held.index_blocks ≡ e.held.index_blocks
-    index_now =
-        held_now.index_is ∙ ended.index_same given_too z other_is f ∙ one_index z.image q.picture a.picture q.held a.held_too ∙ a.index_same ∙ one_index x.image a.picture p.picture a.held p.held
-        ∙ sym (ended.index_same given x left_is e)
-
-    roots_now : AllByRecursion (AlikeRoot left_is.image other_is.image now.table) (roots_of now)
-    roots_now =
-        let P = AlikeRoot left_is.image other_is.image table in
-        let all = each_joined P p.picture.names (p.picture.uniques ++ (others ++ frozen_roots now)) names_after (each_joined P p.picture.uniques (others ++ frozen_roots now) uniques_after
-        (each_joined P others (frozen_roots now) others_after (each_object now.frozen frozen_after))) in
-        let names = ended.names_same given x left_is e in
-        let uniques = ended.uniques_same given x left_is e in
-        let roots : p.picture.names ++ (p.picture.uniques ++ (others ++ frozen_roots now)) ≡ roots_of now = λ i. sym names i ++ (sym uniques i ++ (sym e.loose i ++ frozen_roots now)) in
-        subst (λ t. AllByRecursion (AlikeRoot left_is.image other_is.image t) (roots_of now)) (sym (ended.tables_now given x left_is e)) (subst (AllByRecursion P) roots all)
+    loses_too : LosesObjects q now_too (p.picture.names ++ (p.picture.uniques ++ others)) p.owned []
+    loses_too = subst (λ rs. LosesObjects q now_too (p.picture.names ++ (p.picture.uniques ++ others)) rs []) (sym pictures.owned) (subst (λ rs. LosesObjects q now_too rs q.owned []) front_same (loses given_too z other_is f))
 
     pub ends_alike : AreAlike others [] left_is.image other_is.image
-    ends_alike = record {
-      length_same = f.length_kept ∙ a.length_same ∙ sym e.length_kept;
-      front_same = f.header_kept ∙ a.front_same ∙ sym e.header_kept;
-      next_same = f.next_kept ∙ a.next_same ∙ sym e.next_kept;
-      live_same = live_too;
-      picture = now;
-      held = e.held;
-      held_too = held_now.held;
-      counted = e.counted;
-      index_same = index_now;
-      own = [];
-      loose = e.loose ∙ sym (append-nil others);
-      owned_are = refl;
-      roots = roots_now;
-    }
+    ends_alike = lost_alike a p q e.owned_are at_too now now_too (p.picture.names ++ (p.picture.uniques ++ others)) p.owned [] (loses given x left_is e) loses_too live_too
+        (f.length_kept ∙ a.length_same ∙ sym e.length_kept) (f.header_kept ∙ a.front_same ∙ sym e.header_kept) (f.next_kept ∙ a.next_same ∙ sym e.next_kept) (kinds_stay given x left_is e) (kinds_stay given_too z other_is f)
+        (names_same given x left_is e ∙ pictures.same.names ∙ sym (names_same given_too z other_is f)) (uniques_same given x left_is e ∙ pictures.same.uniques ∙ sym (uniques_same given_too z other_is f)) refl
 
 -- the same for any two clients' givens with the same loose objects
 pub ends_alike_too : (given other : Given) (x z : Situation) (left left_too : Left) → other.others ≡ given.others → StandAlike given.others x z → IsLeftAfter given x left → IsLeftAfter other z left_too

@@ -22,6 +22,8 @@ use Rattle.test_definitions.proofs.DropStepLaws.{drop_alike}
 use Rattle.test_definitions.proofs.RemovingStepLaws.{removing_alike}
 use Rattle.test_definitions.proofs.TakeStepLaws.{take_alike}
 use Rattle.test_definitions.proofs.PutStepLaws.{put_alike}
+use Rattle.test_definitions.proofs.KillStepLaws.{kill_alike}
+use Rattle.test_definitions.proofs.KillUniqueStepLaws.{kill_unique_alike}
 
 module _ (constants : List Constant) (others : List Root) (moves : List Move) (i : Instruction) (x z y w : Situation) (first second : Answer) (stand : StandAlike others x z) (r : RowOn constants others moves i x first y)
     (q : RowOn constants others moves i z second w) where
@@ -40,8 +42,8 @@ module _ (constants : List Constant) (others : List Root) (moves : List Move) (i
   by_operation Operation.Clear is e = clear_alike constants others moves i is x z y w first second stand r q
   by_operation Operation.Make is e = make_alike constants others moves i (inl is) x z y w first second stand r q
   by_operation Operation.FindOrMake is e = make_alike constants others moves i (inr is) x z y w first second stand r q
-  by_operation Operation.Kill is e = cc
-  by_operation Operation.KillUnique is e = cc
+  by_operation Operation.Kill is e = kill_alike constants others moves i is x z y w first second stand r q
+  by_operation Operation.KillUnique is e = kill_unique_alike constants others moves i is x z y w first second stand r q
   by_operation Operation.Put is e = put_alike constants others moves i is x z y w first second stand r q
   by_operation Operation.Take is e = take_alike constants others moves i is x z y w first second stand r q
   by_operation Operation.PushBack is e = adding_alike constants others moves i (inl is) x z y w first second stand r q

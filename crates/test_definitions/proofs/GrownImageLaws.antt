@@ -56,7 +56,7 @@ owner_in q c i = (
       ]
     ])
 
-frozen_in : (q : Picture) (f : Frozen) → IsOneOf f q.frozen → IsAmong (root_of_frozen f) (roots_of q)
+pub frozen_in : (q : Picture) (f : Frozen) → IsOneOf f q.frozen → IsAmong (root_of_frozen f) (roots_of q)
 frozen_in q f i = (
     let root = root_of_frozen f in
     among_right root q.names (q.uniques ++ (q.loose ++ frozen_roots q)) (among_right root q.uniques (q.loose ++ frozen_roots q) (among_right root q.loose (frozen_roots q) (among_frozen f q.frozen i))))

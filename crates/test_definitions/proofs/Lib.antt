@@ -40,7 +40,6 @@ pub mod AlikeKeptLaws
 pub mod AlikeTypesLaws
 pub mod AlikeFirstLaws
 pub mod OneOutcomeLaws
-pub mod IndexKeptLaws
 pub mod FrozenStayLaws
 pub mod FrozenApartLaws
 pub mod FrozenAllStayLaws
@@ -100,6 +99,12 @@ pub mod MovedStepLaws
 pub mod OwnCellLaws
 pub mod TakeStepLaws
 pub mod PutStepLaws
+pub mod LostObjectLaws
+pub mod LostAlikeLaws
+pub mod RemovedRootLaws
+pub mod LostStepLaws
+pub mod KillUniqueStepLaws
+pub mod KillStepLaws
 pub mod AlikeRowLaws
 pub mod Several
 pub mod Whole

@@ -14,12 +14,12 @@ use Rattle.test_definitions.proofs.AlikeRootLaws.{of_type}
 
 -- ---- names
 
-not_before_itself : (a : List ℕ) → Precedes a a → ⊥
+pub not_before_itself : (a : List ℕ) → Precedes a a → ⊥
 not_before_itself [] p = p
 not_before_itself (x ∷ xs) (inl l) = absurd (omega (arith, l))
 not_before_itself (x ∷ xs) (inr p) = not_before_itself xs p.1
 
-before_then : (a b c : List ℕ) → Precedes a b → Precedes b c → Precedes a c
+pub before_then : (a b c : List ℕ) → Precedes a b → Precedes b c → Precedes a c
 before_then [] [] c p q = absurd p
 before_then [] (y ∷ ys) [] p q = absurd q
 before_then [] (y ∷ ys) (z ∷ zs) p q = tt
@@ -33,7 +33,7 @@ before_then (x ∷ xs) (y ∷ ys) (z ∷ zs) (inr p) (inr q) = inr (p.0 ∙ q.0,
 abbrev Names : List Root → List (List ℕ)
 Names rs = map (λ (r : Root). r.name) rs
 
-after_first : (m : Root) (ms : List Root) → AreAscending (Names (m ∷ ms)) → AllByRecursion (λ (r : Root). Precedes m.name r.name) ms × AreAscending (Names ms)
+pub after_first : (m : Root) (ms : List Root) → AreAscending (Names (m ∷ ms)) → AllByRecursion (λ (r : Root). Precedes m.name r.name) ms × AreAscending (Names ms)
 after_first m [] a = (tt, tt)
 after_first m (n ∷ ms) a =
     let rest = after_first n ms a.1 in
@@ -47,7 +47,7 @@ found_first m ms = go (same_name m.name m.name) (same_name_refl m.name)
     go false e = cc
 
 -- the first of the names isn't among the later ones
-not_later : (m : Root) (ms : List Root) (name : List ℕ) → same_name name m.name ≡ true → AllByRecursion (λ (r : Root). Precedes m.name r.name) ms → root_named ms name ≡ None
+pub not_later : (m : Root) (ms : List Root) (name : List ℕ) → same_name name m.name ≡ true → AllByRecursion (λ (r : Root). Precedes m.name r.name) ms → root_named ms name ≡ None
 not_later m ms name e a = go (root_named ms name) refl
   where
     go : (o : Option Root) → root_named ms name ≡ o → o ≡ None
@@ -198,7 +198,7 @@ one_more_name ms ns name a asc asc_too some none beside =
 
 -- ---- types
 
-rising_below : (U : ℕ) (ms : List Root) → AreRising U ms → AllByRecursion (λ (r : Root). U ≤ r.type) ms
+pub rising_below : (U : ℕ) (ms : List Root) → AreRising U ms → AllByRecursion (λ (r : Root). U ≤ r.type) ms
 rising_below U [] a = tt
 rising_below U (m ∷ ms) a = (a.0, each_weaker (λ (r : Root). suc m.type ≤ r.type) (λ (r : Root). U ≤ r.type) (λ r l. omega (arith, l, a.0)) ms (rising_below (suc m.type) ms a.2))
 
@@ -217,7 +217,7 @@ type_is T r (x ∷ rs) e = go (type_is T r rs) (T == x.type) refl e
     go more true f e = (let same : T ≡ x.type = grind (arith, nat_tests) in let one : x ≡ r = cc in sym (same ∙ ap (λ (q : Root). q.type) one))
     go more false f e = more e
 
-no_later_type : (m : Root) (ms : List Root) (T : ℕ) → T ≡ m.type → AreRising (suc m.type) ms → root_of_type ms T ≡ None
+pub no_later_type : (m : Root) (ms : List Root) (T : ℕ) → T ≡ m.type → AreRising (suc m.type) ms → root_of_type ms T ≡ None
 no_later_type m ms T e a = go (root_of_type ms T) refl
   where
     go : (o : Option Root) → root_of_type ms T ≡ o → o ≡ None

@@ -95,7 +95,7 @@ module _ (fs gs : List Frozen) (order : Reordered fs gs) where
 
 -- ---- the node of an entry in a tree
 
-contained : (xs : List ℕ) (x : ℕ) → Contains xs x → 1 ≤ times x xs
+pub contained : (xs : List ℕ) (x : ℕ) → Contains xs x → 1 ≤ times x xs
 contained [] x c = absurd (omega (arith, c.1))
 contained (y ∷ ys) x (zero, fits, is) = subst (λ z. 1 ≤ times x (z ∷ ys)) (sym is) (let n = times-same x ys in omega arith)
 contained (y ∷ ys) x (suc i, fits, is) = let n = contained ys x (i, omega (arith, fits), is) in let more = times-more x y ys in omega arith
@@ -239,7 +239,7 @@ module _ {others : List Root} {places first second : List ℕ} (alike : AreAlike
 
 -- ---- what an instruction frees
 
-killed_is : (o : Option Root) (T : ℕ) (root : Root) → killed o T ≡ Some root → o ≡ Some root
+pub killed_is : (o : Option Root) (T : ℕ) (root : Root) → killed o T ≡ Some root → o ≡ Some root
 killed_is None T root e = cc
 killed_is (Some r) T root e = go (eqb r.type T) e
   where
