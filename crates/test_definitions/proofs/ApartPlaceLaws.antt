@@ -161,7 +161,8 @@ module _ {others : List Root} {s : State} {old : List ℕ} (p : Pictures others 
       let m = middle new p.picture.table here l.item (item_of p.picture.table l.root l.item) (items_nth p.picture.table l.root.at l.root.type n l.item (within p old path place l found begins its holds_it still)) in
       let cut = split new p.picture.table (surrounded_leads old new p.picture.table own_stays.surrounded) m.holds_it in
       let then_is = part.becomes new cut.value cut.its
-      (each_there (KeepsBlockAround old new place.at (size p.picture.table place.type)) (part.left ++ part.right) (λ b some. around_root b (omega (arith, its_are b, some)) (omega (arith, its_are b, some, root_live b, one_at_most b)))) cut.holds_it in
+      (each_there (KeepsBlockAround old new place.at (size p.picture.table place.type)) (part.left ++ part.right) (λ b some. around_root b (omega (arith, its_are b, some)) (omega
+          (arith, its_are b, some, root_live b, one_at_most b)))) cut.holds_it in
       let same = count-change_nth (Some l.item) (with_value_at path.selectors cut.value) l.root.values in
       let values = subst (λ k. HoldsEach new p.picture.table (items p.picture.table l.root.at l.root.type k) (with_item l.root l.item (with_value_at path.selectors cut.value)).values then_is.inside) same then_is.values in
       let index : l.item ≡ count m.left = sym m.at_is ∙ count_is new p.picture.table m.lefts in

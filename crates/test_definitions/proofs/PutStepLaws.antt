@@ -156,7 +156,8 @@ record PutRow (constants : List Constant) (others : List Root) (i : Instruction)
   were : (f : Frozen) → IsOneOf f after.picture.frozen → StandsAt f.at side.move.before.picture.frozen
   none_came : (n : ℕ) (a : Root) → root_of_register s.registers side.move.before.owned n ≡ None → root_of_register t.registers after.owned n ≡ Some a → ⊥
 
-module _ (constants : List Constant) (others : List Root) (moves : List Move) (i : Instruction) (is : i.operation ≡ Operation.Put) (x y : Situation) (row : RowOn constants others moves i x success y) (places : List ℕ) (places_are : x.owned ≡ places) where
+module _ (constants : List Constant) (others : List Root) (moves : List Move) (i : Instruction) (is : i.operation ≡ Operation.Put) (x y : Situation) (row : RowOn constants others moves i x success y) (places : List ℕ)
+    (places_are : x.owned ≡ places) where
   abbrev p : Pictures others row.before.plain x.image
   p = row.before.pictured
 
@@ -318,7 +319,8 @@ module _ (constants : List Constant) (others : List Root) (moves : List Move) (i
   tables : row.after.pictured.picture.table ≡ row.before.pictured.picture.table
   tables = side_moving.tables
 
-  owned_still : (n : ℕ) (c a : Root) → root_of_register row.before.plain.registers row.before.pictured.owned n ≡ Some c → root_of_register row.after.plain.registers row.after.pictured.owned n ≡ Some a → (Some put.root ≡ Some c → ⊥) × HasFace c a
+  owned_still : (n : ℕ) (c a : Root) → root_of_register row.before.plain.registers row.before.pictured.owned n ≡ Some c → root_of_register row.after.plain.registers row.after.pictured.owned n ≡ Some a →
+      (Some put.root ≡ Some c → ⊥) × HasFace c a
   owned_still n c a e f =
       let j = of_register row.before.plain.registers p.owned n c e in
       let k = of_register row.after.plain.registers q.owned n a f in
@@ -386,7 +388,8 @@ module _ (constants : List Constant) (others : List Root) (moves : List Move) (i
       let same = held_value before stays now.holds_content in
       subst (AllByRecursion Below) (sym (ap names_in now.value_is ∙ cells.owned_names now.content)) (subst (λ vs. AllByRecursion Below (names_each vs)) (plain.values_are ∙ ap (λ u. cons u nil) same) named)
     where
-      held_value : {q : Place} {u w : Value} {xs ys : List ℕ} → HoldsEach x.image row.before.pictured.picture.table (q ∷ []) (cons u nil) xs → Persists x.image y.image row.before.pictured.picture.table q q → Holds y.image row.before.pictured.picture.table q w ys → u ≡ w
+      held_value : {q : Place} {u w : Value} {xs ys : List ℕ} → HoldsEach x.image row.before.pictured.picture.table (q ∷ []) (cons u nil) xs → Persists x.image y.image row.before.pictured.picture.table q q
+          → Holds y.image row.before.pictured.picture.table q w ys → u ≡ w
       held_value (holds_more h hs) stays k = (Holds-one y.image p.picture.table (Holds-persists x.image y.image p.picture.table h stays) k).0
 
   within : (a : Root) → IsAmong a (owners_in row.after.pictured.picture) → AllByRecursion Below (names_each a.values)
@@ -402,7 +405,8 @@ module _ (constants : List Constant) (others : List Root) (moves : List Move) (i
       stayed : (c a : Root) → Stays c → HasFace c a → IsAmong a (owners_in row.after.pictured.picture) → AllByRecursion Below (names_each a.values)
       stayed c a j face k = cells_below p y.image path put.place l start.0 start.1 its there.2 moved Stays kept own q tables within_place c a j face k
 
-      owned : (n : ℕ) (a : Root) → root_of_register row.after.plain.registers row.after.pictured.owned n ≡ Some a → (o : Option Root) → root_of_register row.before.plain.registers row.before.pictured.owned n ≡ o → AllByRecursion Below (names_each a.values)
+      owned : (n : ℕ) (a : Root) → root_of_register row.after.plain.registers row.after.pictured.owned n ≡ Some a → (o : Option Root) → root_of_register row.before.plain.registers row.before.pictured.owned n ≡ o
+          → AllByRecursion Below (names_each a.values)
       owned n a e None f = absurd (none_came n a f e)
       owned n a e (Some c) f =
           let k = owned_still n c a f e in
@@ -471,7 +475,8 @@ module _ (constants : List Constant) (others : List Root) (moves : List Move) (i
   there_too =
       let owned = (both stand.images mine.side.move.before theirs.side.move.before mine.side.move.at theirs.side.move.at).owned in
       let root : theirs.root ≡ mine.root = Some_inj (sym theirs.owned ∙ ap (λ rs. root_of_register r.before.plain.registers rs i.c) (sym owned) ∙ mine.owned) in
-      let one_place = led_one constants i stand.images mine.side.move.before theirs.side.move.before mine.side.move.at theirs.side.move.at refers mine.place theirs.place (Form.own mine.root.type) (Form.own theirs.root.type) mine.side.led_to theirs.side.led_to in
+      let one_place = led_one constants i stand.images mine.side.move.before theirs.side.move.before mine.side.move.at theirs.side.move.at refers mine.place theirs.place (Form.own mine.root.type)
+          (Form.own theirs.root.type) mine.side.led_to theirs.side.led_to in
       subst (SideAt mine.place) root (subst (λ (k : Place). SideAt k theirs.root) (sym one_place.0) (record { side = theirs.side; gone_is = theirs.gone_is; points_to = theirs.points_to; stays = theirs.stays }))
 
   abbrev table : Table
@@ -492,7 +497,8 @@ module _ (constants : List Constant) (others : List Root) (moves : List Move) (i
       first_of : {k : Place} {ks : List Place} → AlikeEach x.image z.image mine.side.move.before.picture.table (k ∷ ks) → AlikeAt x.image z.image mine.side.move.before.picture.table k
       first_of (more_alike h hs) = h
 
-  inner : (a b : Value) (xs ys : List ℕ) → Holds y.image mine.side.move.before.picture.table mine.place a xs → AllByRecursion (Fits y.image) xs → Holds w.image mine.side.move.before.picture.table mine.place b ys → AllByRecursion (Fits w.image) ys
+  inner : (a b : Value) (xs ys : List ℕ) → Holds y.image mine.side.move.before.picture.table mine.place a xs → AllByRecursion (Fits y.image) xs → Holds w.image mine.side.move.before.picture.table mine.place b ys
+      → AllByRecursion (Fits w.image) ys
       → AlikeAt y.image w.image mine.side.move.before.picture.table mine.place
   inner a b xs ys h fits k fits_too =
       let types : r.before.plain.types ≡ table = sym mine.side.move.before.types in
@@ -503,7 +509,8 @@ module _ (constants : List Constant) (others : List Root) (moves : List Move) (i
       let stays = subst (λ (t : Table). Persists x.image y.image t (object_at at T) (object_at at T)) types mine.stays in
       let stays_too = subst (λ (t : Table). Persists z.image w.image t (object_at at T) (object_at at T)) types there_too.stays in
       cells.owning_alike y.image w.image table mine.place T cell_form at mine.points_to there_too.points_to h k
-      (persist_alike x.image y.image z.image w.image table object_alike stays stays_too now.holds_content (subst (AllByRecursion (Fits y.image)) now.blocks_are fits).1 now_too.holds_content (subst (AllByRecursion (Fits w.image)) now_too.blocks_are fits_too).1)
+      (persist_alike x.image y.image z.image w.image table object_alike stays stays_too now.holds_content (subst (AllByRecursion (Fits y.image)) now.blocks_are fits).1 now_too.holds_content (subst (AllByRecursion
+          (Fits w.image)) now_too.blocks_are fits_too).1)
 
   both_put : StaysAlike others success success y w
   both_put =

@@ -133,7 +133,8 @@ record TakeRow (constants : List Constant) (others : List Root) (i : Instruction
   were : (f : Frozen) → IsOneOf f after.picture.frozen → StandsAt f.at side.move.before.picture.frozen
   taken : TakenObject i side.move.before after place type
 
-module _ (constants : List Constant) (others : List Root) (moves : List Move) (i : Instruction) (is : i.operation ≡ Operation.Take) (x y : Situation) (row : RowOn constants others moves i x success y) (places : List ℕ) (places_are : x.owned ≡ places) where
+module _ (constants : List Constant) (others : List Root) (moves : List Move) (i : Instruction) (is : i.operation ≡ Operation.Take) (x y : Situation) (row : RowOn constants others moves i x success y) (places : List ℕ)
+    (places_are : x.owned ≡ places) where
   abbrev p : Pictures others row.before.plain x.image
   p = row.before.pictured
 
@@ -354,7 +355,8 @@ module _ (constants : List Constant) (others : List Root) (moves : List Move) (i
       stayed : (c a : Root) → IsAmong c (owners_in row.before.pictured.picture) → HasFace c a → IsAmong a (owners_in row.after.pictured.picture) → AllByRecursion Below (names_each a.values)
       stayed c a j face k = cells_below p y.image path take.place l start.0 start.1 its there.2 [] Stays kept own q tables within_place c a (j, never c) face k
 
-      owned : (n : ℕ) (a : Root) → root_of_register row.after.plain.registers row.after.pictured.owned n ≡ Some a → (o : Option Root) → root_of_register row.before.plain.registers row.before.pictured.owned n ≡ o → AllByRecursion Below (names_each a.values)
+      owned : (n : ℕ) (a : Root) → root_of_register row.after.plain.registers row.after.pictured.owned n ≡ Some a → (o : Option Root) → root_of_register row.before.plain.registers row.before.pictured.owned n ≡ o
+          → AllByRecursion Below (names_each a.values)
       owned n a e None f = subst (λ vs. AllByRecursion Below (names_each vs)) (sym (came_values n a f e)) content_below
       owned n a e (Some c) f = stayed c a (owned_in p c (of_register row.before.plain.registers p.owned n c f)) (still_faced n c a f e) (owned_in q a (of_register row.after.plain.registers q.owned n a e))
 
@@ -411,7 +413,8 @@ module _ (constants : List Constant) (others : List Root) (moves : List Move) (i
   SideAt place T = (side : MovedSide constants others i x.owned z.image w.image q.after.pictured place (Form.own T) r.before.plain) × (side.gone ≡ None) × TakenObject i side.move.before q.after.pictured place T
 
   same_place : (mine.place ≡ theirs.place) × (Form.own mine.type ≡ Form.own theirs.type)
-  same_place = led_one constants i stand.images mine.side.move.before theirs.side.move.before mine.side.move.at theirs.side.move.at refers mine.place theirs.place (Form.own mine.type) (Form.own theirs.type) mine.side.led_to theirs.side.led_to
+  same_place = led_one constants i stand.images mine.side.move.before theirs.side.move.before mine.side.move.at theirs.side.move.at refers mine.place theirs.place (Form.own mine.type)
+      (Form.own theirs.type) mine.side.led_to theirs.side.led_to
 
   -- the row of the second image, at the place of the first
   there_too : SideAt mine.place mine.type
