@@ -30,12 +30,12 @@ use Rattle.client_spec.proofs.Unfolded.PictureTreeLaws.{all_named}
 use Rattle.client_spec.proofs.Unfolded.UnfoldedStateLaws.{integer_same, path_same, value_same}
 use Rattle.client_spec.proofs.Unfolded.UnfoldedValueLaws.{nothing_replaced, append_replaced, count_replaced}
 use Rattle.client_sim.proofs.Frozen.ReadOnlyLaws.{named_at}
-use Rattle.test_definitions.specs.Alike.{Idle, StandAlike, StaysAlike}
+use Rattle.test_definitions.specs.Alike.{StandAlike, StaysAlike}
 use Rattle.test_definitions.proofs.AlikePlaceLaws.{buffer_blocks}
 use Rattle.test_definitions.proofs.ChangedPlaceLaws.{own_owner, value_below}
 use Rattle.test_definitions.proofs.ChangedPlaceRowLaws.{cells_of}
 use Rattle.test_definitions.proofs.ContainerValueLaws.{seen_count, count_alike, key_there, value_before}
-use Rattle.test_definitions.proofs.KeptRowLaws.{one, unchanged_alike, idle_alike}
+use Rattle.test_definitions.proofs.KeptRowLaws.{Idle, one, unchanged_alike, idle_alike}
 use Rattle.test_definitions.proofs.NewPartLaws.{Was, was_there, was_alike, Came, came_there, came_alike, container_label, container_long, may_go, one_more_block}
 use Rattle.test_definitions.proofs.OnePlaceLaws.{RefersTo, led_in_both, led_one}
 use Rattle.test_definitions.proofs.OneRow as one_row

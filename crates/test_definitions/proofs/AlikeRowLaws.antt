@@ -6,7 +6,7 @@ use Rattle.client_spec.specs.Syntax.{Constant, Instruction}
 use Rattle.client_spec.specs.Answer.{Answer}
 use Rattle.client_spec.specs.Ties.{keeps_image}
 use Rattle.client_spec.specs.OnImages.{Move, Situation, RowOn}
-use Rattle.test_definitions.specs.Alike.{is_settled, StandAlike, StaysAlike}
+use Rattle.test_definitions.specs.Alike.{StandAlike, StaysAlike}
 use Rattle.test_definitions.proofs.KeptImageLaws.{reads_keep}
 use Rattle.test_definitions.proofs.KeptRowLaws.{unchanged_alike}
 use Rattle.test_definitions.proofs.StoreStepLaws.{store_alike}
@@ -27,33 +27,33 @@ use Rattle.test_definitions.proofs.KillUniqueStepLaws.{kill_unique_alike}
 
 module _ (constants : List Constant) (others : List Root) (moves : List Move) (i : Instruction) (x z y w : Situation) (first second : Answer) (stand : StandAlike others x z) (r : RowOn constants others moves i x first y)
     (q : RowOn constants others moves i z second w) where
-  by_operation : (o : Operation) → i.operation ≡ o → is_settled o ≡ true → StaysAlike others first second y w
-  by_operation Operation.Store is e = store_alike constants others moves i is x z y w first second stand r q
-  by_operation Operation.SetStr is e = text_alike constants others moves i (inl is) x z y w first second stand r q
-  by_operation Operation.AddStr is e = text_alike constants others moves i (inr (inl is)) x z y w first second stand r q
-  by_operation Operation.AddByte is e = text_alike constants others moves i (inr (inr is)) x z y w first second stand r q
-  by_operation Operation.Shrink is e = shrink_alike constants others moves i is x z y w first second stand r q
-  by_operation Operation.MakeUnique is e = unique_alike constants others moves i (inl is) x z y w first second stand r q
-  by_operation Operation.FindOrMakeUnique is e = unique_alike constants others moves i (inr is) x z y w first second stand r q
-  by_operation Operation.New is e = new_alike constants others moves i is x z y w first second stand r q
-  by_operation Operation.Drop is e = drop_alike constants others moves i is x z y w first second stand r q
-  by_operation Operation.PopFront is e = removing_alike constants others moves i (inr (inl is)) x z y w first second stand r q
-  by_operation Operation.Share is e = share_alike constants others moves i is x z y w first second stand r q
-  by_operation Operation.Clear is e = clear_alike constants others moves i is x z y w first second stand r q
-  by_operation Operation.Make is e = make_alike constants others moves i (inl is) x z y w first second stand r q
-  by_operation Operation.FindOrMake is e = make_alike constants others moves i (inr is) x z y w first second stand r q
-  by_operation Operation.Kill is e = kill_alike constants others moves i is x z y w first second stand r q
-  by_operation Operation.KillUnique is e = kill_unique_alike constants others moves i is x z y w first second stand r q
-  by_operation Operation.Put is e = put_alike constants others moves i is x z y w first second stand r q
-  by_operation Operation.Take is e = take_alike constants others moves i is x z y w first second stand r q
-  by_operation Operation.PushBack is e = adding_alike constants others moves i (inl is) x z y w first second stand r q
-  by_operation Operation.PushFront is e = adding_alike constants others moves i (inr (inl is)) x z y w first second stand r q
-  by_operation Operation.PopBack is e = removing_alike constants others moves i (inl is) x z y w first second stand r q
-  by_operation Operation.PutKey is e = adding_alike constants others moves i (inr (inr is)) x z y w first second stand r q
-  by_operation Operation.DeleteKey is e = removing_alike constants others moves i (inr (inr is)) x z y w first second stand r q
-  by_operation Operation.Freeze is e = cc
-  by_operation o is e = unchanged_alike constants others moves i x z y w first second stand r q (ap (λ p. keeps_image p first) is ∙ reads_keep o refl first)
+  by_operation : (o : Operation) → i.operation ≡ o → StaysAlike others first second y w
+  by_operation Operation.Store is = store_alike constants others moves i is x z y w first second stand r q
+  by_operation Operation.SetStr is = text_alike constants others moves i (inl is) x z y w first second stand r q
+  by_operation Operation.AddStr is = text_alike constants others moves i (inr (inl is)) x z y w first second stand r q
+  by_operation Operation.AddByte is = text_alike constants others moves i (inr (inr is)) x z y w first second stand r q
+  by_operation Operation.Shrink is = shrink_alike constants others moves i is x z y w first second stand r q
+  by_operation Operation.MakeUnique is = unique_alike constants others moves i (inl is) x z y w first second stand r q
+  by_operation Operation.FindOrMakeUnique is = unique_alike constants others moves i (inr is) x z y w first second stand r q
+  by_operation Operation.New is = new_alike constants others moves i is x z y w first second stand r q
+  by_operation Operation.Drop is = drop_alike constants others moves i is x z y w first second stand r q
+  by_operation Operation.PopFront is = removing_alike constants others moves i (inr (inl is)) x z y w first second stand r q
+  by_operation Operation.Share is = share_alike constants others moves i is x z y w first second stand r q
+  by_operation Operation.Clear is = clear_alike constants others moves i is x z y w first second stand r q
+  by_operation Operation.Make is = make_alike constants others moves i (inl is) x z y w first second stand r q
+  by_operation Operation.FindOrMake is = make_alike constants others moves i (inr is) x z y w first second stand r q
+  by_operation Operation.Kill is = kill_alike constants others moves i is x z y w first second stand r q
+  by_operation Operation.KillUnique is = kill_unique_alike constants others moves i is x z y w first second stand r q
+  by_operation Operation.Put is = put_alike constants others moves i is x z y w first second stand r q
+  by_operation Operation.Take is = take_alike constants others moves i is x z y w first second stand r q
+  by_operation Operation.PushBack is = adding_alike constants others moves i (inl is) x z y w first second stand r q
+  by_operation Operation.PushFront is = adding_alike constants others moves i (inr (inl is)) x z y w first second stand r q
+  by_operation Operation.PopBack is = removing_alike constants others moves i (inl is) x z y w first second stand r q
+  by_operation Operation.PutKey is = adding_alike constants others moves i (inr (inr is)) x z y w first second stand r q
+  by_operation Operation.DeleteKey is = removing_alike constants others moves i (inr (inr is)) x z y w first second stand r q
+  by_operation Operation.Freeze is = cc
+  by_operation o is = unchanged_alike constants others moves i x z y w first second stand r q (ap (λ p. keeps_image p first) is ∙ reads_keep o refl first)
 
-pub settled_alike : (constants : List Constant) (others : List Root) (moves : List Move) (i : Instruction) → is_settled i.operation ≡ true → (x z y w : Situation) (first second : Answer) → StandAlike others x z
-    → RowOn constants others moves i x first y → RowOn constants others moves i z second w → StaysAlike others first second y w
-settled_alike constants others moves i e x z y w first second stand r q = by_operation constants others moves i x z y w first second stand r q i.operation refl e
+pub step_alike : (constants : List Constant) (others : List Root) (moves : List Move) (i : Instruction) (x z y w : Situation) (first second : Answer) → StandAlike others x z → RowOn constants others moves i x first y
+    → RowOn constants others moves i z second w → StaysAlike others first second y w
+step_alike constants others moves i x z y w first second stand r q = by_operation constants others moves i x z y w first second stand r q i.operation refl

@@ -10,11 +10,11 @@ use Rattle.client_spec.specs.Plain.{CutShort}
 use Rattle.client_spec.specs.Safe.{Writes}
 use Rattle.client_spec.specs.OnImages.{Move, Situation, base_for, Moves, RowWith, StopOn, image_machine}
 use Rattle.client_spec.proofs.Rows.RowFrameLaws.{still, set_follows}
-use Rattle.client_spec.proofs.Runs.KeptByRunLaws.{Each}
 use Rattle.client_spec.proofs.OperationLaws.{rows}
 use Rattle.test_definitions.specs.Alike.{AreAlike}
-use Rattle.test_definitions.specs.Agreement.{StayAlike, RunAlike, IsLonger, HasMore, AlikeUpTo}
+use Rattle.test_definitions.specs.Agreement.{RunAlike, IsLonger, HasMore, AlikeUpTo}
 use Rattle.test_definitions.proofs.CutOutputLaws.{longer_then, Compared, equal, longer, shorter, SameCut, same_cut, row_longer}
+use Rattle.test_definitions.proofs.AlikeRowLaws.{step_alike}
 use Rattle.test_definitions.proofs.TwoRunLaws.{Meet, together, first_stopped, second_stopped, StepsMeet, code_meets}
 
 pub row_writes : (constants : List Constant) (i : Instruction) (bytes : List ℕ) (s : State) (answer : Answer) (t : State) → RowWith constants i bytes s answer t → Writes s t
@@ -45,21 +45,21 @@ module _ (constants : List Constant) (others : List Root) (moves : List Move) wh
   cut_too i x z w r g = subst (λ s. CutShort constants i s w.state) r.stand.states g.cut
 
   stops_meet : (i : Instruction) (x z y w : Situation) → RunAlike others x z → StopOn constants moves i x y → StopOn constants moves i z w
-      → Meet Situation (image_machine constants others moves) StayAlike (RunAlike others) HasMore y 1 stopped w 1 stopped
+      → Meet Situation (image_machine constants others moves) (RunAlike others) HasMore y 1 stopped w 1 stopped
   stops_meet i x z y w r f g = by cuts.outputs
     where
       cuts : SameCut constants i x.state y.state w.state
       cuts = same_cut constants i x.state y.state w.state f.cut (cut_too i x z w r g)
 
-      by : Compared y.state.output w.state.output → Meet Situation (image_machine constants others moves) StayAlike (RunAlike others) HasMore y 1 stopped w 1 stopped
+      by : Compared y.state.output w.state.output → Meet Situation (image_machine constants others moves) (RunAlike others) HasMore y 1 stopped w 1 stopped
       by (equal e) = together (unmoved x z y w r f.moved g.moved f.image g.image f.owned g.owned (sym (cuts.if_equal e))) refl refl
       by (longer l) = first_stopped refl l
       by (shorter l) = second_stopped refl l
 
-  steps_meet : StepsMeet Situation (image_machine constants others moves) StayAlike (RunAlike others) HasMore
+  steps_meet : StepsMeet Situation (image_machine constants others moves) (RunAlike others) HasMore
   steps_meet = record {
-    rows = λ i x z y w a b stay r f g. (
-        let one = stay constants others moves x z y w a b r.stand f g in
+    rows = λ i x z y w a b r f g. (
+        let one = step_alike constants others moves i x z y w a b r.stand f g in
         let move = same_move x z y w r f.moved g.moved in
         (sym one.answers, record { stand = one.stand; base = move.0; steps = move.1 }));
     stops = stops_meet;
@@ -73,10 +73,10 @@ module _ (constants : List Constant) (others : List Root) (moves : List Move) wh
     tick_ahead = λ u x y f l. subst (λ (s : State). IsLonger u.state.output s.output) (sym f.state) l;
   }
 
-  pub runs_alike : (code : Statements) → Each StayAlike code → (x z y w : Situation) (n m : ℕ) (end other : Ending) → RunAlike others x z
+  pub runs_alike : (code : Statements) (x z y w : Situation) (n m : ℕ) (end other : Ending) → RunAlike others x z
       → Run Situation (image_machine constants others moves) code x y n end → Run Situation (image_machine constants others moves) code z w m other → AlikeUpTo others y n end w m other
-  runs_alike code stay x z y w n m end other r f g =
-      elim ((code_meets Situation (image_machine constants others moves) StayAlike (RunAlike others) HasMore steps_meet code stay).each x z y w n m end other r f g) [
+  runs_alike code x z y w n m end other r f g =
+      elim ((code_meets Situation (image_machine constants others moves) (RunAlike others) HasMore steps_meet code).each x z y w n m end other r f g) [
         | together last steps ends ↦ inl (last, steps, ends)
         | first_stopped e l ↦ inr (inl (e, l))
         | second_stopped e l ↦ inr (inr (e, l))

@@ -1,5 +1,5 @@
 -- After a row that leaves the image as it is, two images are still alike.
-use Rattle.std.specs.Prelude.{nat_abs}
+use Rattle.std.specs.Prelude.{nat_abs, Some, None}
 use Rattle.std.proofs.Common.{◌≡◌, ℕ, List, true, false, refl, sym, ap, ◌∙◌, subst}
 use Rattle.seg_spec.specs.Bytes.{word}
 use Rattle.seg_spec.specs.Header.{next_word}
@@ -12,13 +12,28 @@ use Rattle.client_spec.specs.Syntax.{Constant, Instruction}
 use Rattle.client_spec.specs.Machine.{◌>>=◌, State}
 use Rattle.client_spec.specs.Answer.{Answer, success, type_operand}
 use Rattle.client_spec.specs.Pictures.{meaning_in, Pictures, PicturesTrees}
-use Rattle.client_spec.specs.Asks.{name_operand}
+use Rattle.client_spec.specs.Asks.{name_operand, found_key}
 use Rattle.client_spec.specs.Ties.{places_of, keeps_image, KeepsBy}
 use Rattle.client_spec.specs.OnImages.{Move, Situation, RowOn}
-use Rattle.test_definitions.specs.Alike.{AreAlike, Idle, StandAlike, StaysAlike}
+use Rattle.test_definitions.specs.Alike.{AreAlike, StandAlike, StaysAlike}
 use Rattle.test_definitions.proofs.OwningRegisterLaws.{owners, moves_owners, unfolded_owners, row_keeps, owned_places}
 use Rattle.test_definitions.proofs.OneState.{AsPictured, as_pictured, plain_same}
 use Rattle.test_definitions.proofs.OneRow.{alike_rows}
+
+-- The instruction finds what it would make, or lacks what it would destroy.
+module _ (constants : List Constant) (i : Instruction) {others : List Root} {s : State}
+    {bytes : List ℕ} (pictured : Pictures others s bytes) where
+  abbrev pub Idle : Operation → Type 0
+  Idle Operation.FindOrMake = (root : Root) × ((name_operand constants i s >>= λ name.
+      root_named pictured.picture.names name) ≡ Some root)
+  Idle Operation.Kill = (name_operand constants i s >>= λ name.
+      killed (root_named pictured.picture.names name) (type_operand i.number)) ≡ None
+  Idle Operation.FindOrMakeUnique =
+      (root : Root) × (root_of_type pictured.picture.uniques (nat_abs i.number) ≡ Some root)
+  Idle Operation.KillUnique = root_of_type pictured.picture.uniques (nat_abs i.number) ≡ None
+  Idle Operation.PutKey = (j : ℕ) × (found_key i s ≡ Some j)
+  Idle Operation.DeleteKey = found_key i s ≡ None
+  Idle operation = ⊥
 
 module _ (constants : List Constant) (i : Instruction) {others : List Root} {s : State} {bytes : List ℕ} (p : Pictures others s bytes) where
   idle_keeps : (o : Operation) (new : List ℕ) → Idle constants i p o → KeepsBy constants i p o new → new ≡ bytes

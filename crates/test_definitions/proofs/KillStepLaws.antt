@@ -28,12 +28,12 @@ use Rattle.client_spec.specs.Ties.{Spot, nowhere, keeps_image, OfRoot, TouchesBy
 use Rattle.client_spec.specs.OnImages.{Move, Situation, RowWith, RowOn}
 use Rattle.client_spec.proofs.TypedStates.StateLaws.{same_name_is}
 use Rattle.client_spec.proofs.Unfolded.UnfoldedStateLaws.{name_same}
-use Rattle.test_definitions.specs.Alike.{Idle, StandAlike, StaysAlike}
+use Rattle.test_definitions.specs.Alike.{StandAlike, StaysAlike}
 use Rattle.test_definitions.proofs.AnsweredRowLaws.{from_answer}
 use Rattle.test_definitions.proofs.ChangedPlaceLaws.{holds_one}
 use Rattle.test_definitions.proofs.FrozenApartLaws.{frozen_apart, among_either}
 use Rattle.test_definitions.proofs.KeptImageLaws.{whole}
-use Rattle.test_definitions.proofs.KeptRowLaws.{one, unchanged_alike, one_before, plain_before, idle_alike}
+use Rattle.test_definitions.proofs.KeptRowLaws.{Idle, one, unchanged_alike, one_before, plain_before, idle_alike}
 use Rattle.test_definitions.proofs.LostObjectLaws as lost
 use Rattle.test_definitions.proofs.LostStepLaws.{Destroys, only_given, held_here, frozen_are, same_places, same_loose, loose_plain, keeps, lost as loses, both_lost}
 use Rattle.test_definitions.proofs.OwningRegisterLaws.{moves_owners, changes_uniques}

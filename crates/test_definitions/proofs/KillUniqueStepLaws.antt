@@ -13,11 +13,11 @@ use Rattle.client_spec.specs.Pictures.{Pictures}
 use Rattle.client_spec.specs.Asks.{AsksBy, ReturnsBy, GrantsAsks, ChangesOnSuccess}
 use Rattle.client_spec.specs.Ties.{keeps_image, TouchesBy}
 use Rattle.client_spec.specs.OnImages.{Move, Situation, RowWith, RowOn}
-use Rattle.test_definitions.specs.Alike.{Idle, StandAlike, StaysAlike}
+use Rattle.test_definitions.specs.Alike.{StandAlike, StaysAlike}
 use Rattle.test_definitions.proofs.AlikeRootLaws.{of_type}
 use Rattle.test_definitions.proofs.AnsweredRowLaws.{from_answer}
 use Rattle.test_definitions.proofs.FrozenApartLaws.{among_either}
-use Rattle.test_definitions.proofs.KeptRowLaws.{one, unchanged_alike, one_before, idle_alike}
+use Rattle.test_definitions.proofs.KeptRowLaws.{Idle, one, unchanged_alike, one_before, idle_alike}
 use Rattle.test_definitions.proofs.ListedRootLaws.{type_is}
 use Rattle.test_definitions.proofs.LostObjectLaws as lost
 use Rattle.test_definitions.proofs.LostStepLaws.{Destroys, same_places, same_loose, loose_plain, root_destroyed, keeps, lost as loses, both_lost}

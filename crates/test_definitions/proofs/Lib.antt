@@ -109,7 +109,7 @@ pub mod AlikeRowLaws
 pub mod Several
 pub mod Whole
 pub mod CounterRun
-pub mod SettledRunLaws
+pub mod OneIncrementLaws
 pub mod OneClientLaws
 pub mod NoOwnerLaws
 pub mod ExchangedImage

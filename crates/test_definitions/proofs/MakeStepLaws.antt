@@ -26,7 +26,7 @@ use Rattle.client_spec.specs.OnImages.{Move, Situation, RowWith, RowOn}
 use Rattle.client_spec.proofs.TypedStates.StateLaws.{same_name_is, name_there}
 use Rattle.client_spec.proofs.TypedStates.ValueLaws.{Some_inj}
 use Rattle.client_spec.proofs.Unfolded.UnfoldedStateLaws.{integer_or_same, name_same}
-use Rattle.test_definitions.specs.Alike.{Idle, StandAlike, StaysAlike}
+use Rattle.test_definitions.specs.Alike.{StandAlike, StaysAlike}
 use Rattle.test_definitions.proofs.AlikeChangeLaws.{root_one}
 use Rattle.test_definitions.proofs.ChangedPlaceRowLaws.{cells_of}
 use Rattle.test_definitions.proofs.DefaultCellLaws.{default_cells_each}
@@ -34,7 +34,7 @@ use Rattle.test_definitions.proofs.FrozenApartLaws.{among_either}
 use Rattle.test_definitions.proofs.GrownImageLaws.{Grows, owner_in}
 use Rattle.test_definitions.proofs.GrownStepLaws.{both_as_before, both_with, both_grown}
 use Rattle.test_definitions.proofs.IndexAlikeLaws.{index_long, index_is_long, NodesStay}
-use Rattle.test_definitions.proofs.KeptRowLaws.{owned_kept, one, unchanged_alike, one_before, idle_alike}
+use Rattle.test_definitions.proofs.KeptRowLaws.{Idle, owned_kept, one, unchanged_alike, one_before, idle_alike}
 use Rattle.test_definitions.proofs.ListedRootLaws.{types_listed, names_listed, found_named, one_more_name}
 use Rattle.test_definitions.proofs.MadeBlockLaws.{MakesRoom, room_made}
 use Rattle.test_definitions.proofs.MakeRowLaws.{Makes, by_either, NamesThen, NewName, FindsName, names_row}

@@ -22,7 +22,7 @@ use Rattle.client_spec.specs.Clients.{AreAccepted, given_next, GoesOn, RunClient
 use Rattle.client_spec.proofs.Runs.KeptByRunLaws.{Each, code_keeps, no_condition}
 use Rattle.test_definitions.specs.Alike.{AlikeRoot, AreAlike}
 use Rattle.test_definitions.proofs.AlikePlaceLaws.{each_itself}
-use Rattle.test_definitions.specs.Agreement.{StayAlike, AllStayAlike, IsLonger, AlikeUpTo, AgreeIn, AllAgree, StopsEarlier, OneOutcome}
+use Rattle.test_definitions.specs.Agreement.{IsLonger, AlikeUpTo, AgreeIn, AllAgree, StopsEarlier, OneOutcome}
 use Rattle.test_definitions.proofs.AlikeRunLaws.{row_writes, runs_alike}
 use Rattle.test_definitions.proofs.AlikeFirstLaws.{first_alike}
 use Rattle.test_definitions.proofs.AlikeEndLaws.{ends_alike}
@@ -77,7 +77,7 @@ data LeftAlike (others : List Root) (left other : Left) : Type 0 where
   first_ended : left.ending ≡ stopped → IsLonger left.output other.output → LeftAlike others left other
   second_ended : other.ending ≡ stopped → IsLonger other.output left.output → LeftAlike others left other
 
-module _ (client : Client) (stay : Each StayAlike client.code) (others : List Root) (moves : List Move) (base : ℕ) (input image image_too host host_too : List ℕ) where
+module _ (client : Client) (others : List Root) (moves : List Move) (base : ℕ) (input image image_too host host_too : List ℕ) where
   abbrev given : Given
   given = given_with others moves base input image host
 
@@ -87,7 +87,7 @@ module _ (client : Client) (stay : Each StayAlike client.code) (others : List Ro
   client_alike : (a : AreAlike others [] image image_too) → Agree a.picture.table client.types → (left left_too : Left) → RunsClient client given left → RunsClient client given_too left_too → LeftAlike others left left_too
   client_alike a agree left left_too r q =
       let first = first_alike client given given_too r.first q.first a refl refl agree r.is_first q.is_first in
-      by (runs_alike client.constants others moves client.code stay r.first q.first r.last q.last left.steps left_too.steps left.ending left_too.ending first r.run q.run)
+      by (runs_alike client.constants others moves client.code r.first q.first r.last q.last left.steps left_too.steps left.ending left_too.ending first r.run q.run)
     where
       by : AlikeUpTo others r.last left.steps left.ending q.last left_too.steps left_too.ending → LeftAlike others left left_too
       by (inl (last, steps, ends)) =
@@ -131,16 +131,16 @@ module _ (moves : List Move) where
   Outcomes clients table = (base : ℕ) (input image image_too host host_too : List ℕ) (a : AreAlike [] [] image image_too) → a.picture.table ≡ table
       → (lefts others : List Left) → RunClients clients (given_with [] moves base input image host) lefts → RunClients clients (given_with [] moves base input image_too host_too) others → OneOutcome lefts others
 
-  clients_alike : (clients : List Client) → AllStayAlike clients → (table : Table) (texts : List (List ℕ)) → AreAccepted table texts clients → Outcomes clients table
-  clients_alike [] stay table texts ok base input image image_too host host_too a is [] [] r q = inl tt
-  clients_alike [] stay table texts ok base input image image_too host host_too a is [] (other ∷ others) r q = absurd q
-  clients_alike [] stay table texts ok base input image image_too host host_too a is (left ∷ lefts) others r q = absurd r
-  clients_alike (client ∷ clients) stay table texts ok base input image image_too host host_too a is [] others r q = absurd r
-  clients_alike (client ∷ clients) stay table texts ok base input image image_too host host_too a is (left ∷ lefts) [] r q = absurd q
-  clients_alike (client ∷ clients) stay table [] ok base input image image_too host host_too a is (left ∷ lefts) (other ∷ others) r q = absurd ok
-  clients_alike (client ∷ clients) stay table (text ∷ texts) ok base input image image_too host host_too a is (left ∷ lefts) (other ∷ others) r q =
-      by (clients_alike clients stay.1 (longer table client.types) texts ok.2)
-      (client_alike client stay.0 [] moves base input image image_too host host_too a (subst (λ t. Agree t client.types) (sym is) ok.1.agree) left other r.0 q.0)
+  clients_alike : (clients : List Client) (table : Table) (texts : List (List ℕ)) → AreAccepted table texts clients → Outcomes clients table
+  clients_alike [] table texts ok base input image image_too host host_too a is [] [] r q = inl tt
+  clients_alike [] table texts ok base input image image_too host host_too a is [] (other ∷ others) r q = absurd q
+  clients_alike [] table texts ok base input image image_too host host_too a is (left ∷ lefts) others r q = absurd r
+  clients_alike (client ∷ clients) table texts ok base input image image_too host host_too a is [] others r q = absurd r
+  clients_alike (client ∷ clients) table texts ok base input image image_too host host_too a is (left ∷ lefts) [] r q = absurd q
+  clients_alike (client ∷ clients) table [] ok base input image image_too host host_too a is (left ∷ lefts) (other ∷ others) r q = absurd ok
+  clients_alike (client ∷ clients) table (text ∷ texts) ok base input image image_too host host_too a is (left ∷ lefts) (other ∷ others) r q =
+      by (clients_alike clients (longer table client.types) texts ok.2)
+      (client_alike client [] moves base input image image_too host host_too a (subst (λ t. Agree t client.types) (sym is) ok.1.agree) left other r.0 q.0)
     where
       go_on : Outcomes clients (longer table client.types) → (ending ending_too : Ending) → ending_too ≡ ending → AgreeIn left other
           → GoesOn ending (RunClients clients (given_next (given_with [] moves base input image host) left) lefts) lefts
@@ -201,15 +201,15 @@ image_itself bytes picture held counted loose = record {
 }
 
 pub outcomes_alike : (image : List ℕ) (texts : List (List ℕ)) (input : List ℕ) (room base : ℕ) (moves : List Move) (lefts others : List Left) → (o : IsOutcome image texts input room base moves lefts)
-    → AllStayAlike o.can_run.clients → IsOutcome image texts input room base moves others → OneOutcome lefts others
-outcomes_alike image texts input room base moves lefts others o stay q =
+    → IsOutcome image texts input room base moves others → OneOutcome lefts others
+outcomes_alike image texts input room base moves lefts others o q =
     let sound = o.can_run.sound in
     let start = upgraded image in
     let counted = subst (λ n. AreCounted n sound.picture) (sym (same_word image next_word (omega arith))) sound.counted in
     let a = image_itself start sound.picture (upgraded_held image sound.picture sound.held) counted sound.none_loose in
     let held = upgraded_held image sound.picture sound.held in
     let clients = same_clients q.can_run.sound.picture.table sound.picture.table texts q.can_run.clients o.can_run.clients q.can_run.accepted o.can_run.accepted in
-    clients_alike moves o.can_run.clients stay sound.picture.table texts o.can_run.accepted base input start start o.host q.host a (Held-one start a.picture sound.picture a.held held).table lefts others o.runs
+    clients_alike moves o.can_run.clients sound.picture.table texts o.can_run.accepted base input start start o.host q.host a (Held-one start a.picture sound.picture a.held held).table lefts others o.runs
     (subst (λ cs. RunClients cs (given_with [] moves base input start q.host) others) clients q.runs)
 
 -- ---- when both wrote as much, or no output failed

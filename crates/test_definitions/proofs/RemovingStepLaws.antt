@@ -27,10 +27,10 @@ use Rattle.client_spec.specs.Ties.{SameOrAt, LosesLast, OfPlace, OfFrozen, Both,
 use Rattle.client_spec.specs.OnImages.{Move, Situation, RowWith, RowOn}
 use Rattle.client_spec.proofs.TypedStates.ValueLaws.{Some_inj}
 use Rattle.client_spec.proofs.Unfolded.UnfoldedStateLaws.{path_same}
-use Rattle.test_definitions.specs.Alike.{Idle, StandAlike, StaysAlike}
+use Rattle.test_definitions.specs.Alike.{StandAlike, StaysAlike}
 use Rattle.test_definitions.proofs.AddedValueLaws.{IsContainer}
 use Rattle.test_definitions.proofs.ContainerValueLaws.{seen_count, count_alike, key_there, value_before}
-use Rattle.test_definitions.proofs.KeptRowLaws.{one, unchanged_alike, idle_alike}
+use Rattle.test_definitions.proofs.KeptRowLaws.{Idle, one, unchanged_alike, idle_alike}
 use Rattle.test_definitions.proofs.OnePlaceLaws.{RefersTo, led_in_both, led_one}
 use Rattle.test_definitions.proofs.OneRow.{itself}
 use Rattle.test_definitions.proofs.OwningRegisterLaws.{moves_owners, changes_names, changes_uniques}

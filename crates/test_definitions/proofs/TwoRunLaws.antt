@@ -4,15 +4,14 @@ use Rattle.std.proofs.Common.{◌≡◌, ℕ, zero, suc, ◌+◌, inl, inr, sym,
 use Rattle.std.specs.Prelude.{ℤ, pos, nat_abs, Option, Some, None}
 use Rattle.client_spec.specs.Syntax.{Instruction, Statement, plain, opener, loop, Statements, no_more, next}
 use Rattle.client_spec.specs.Answer.{Answer, success, is_zero, already_exists, bad_alloc, absent, other_type, out_of_range, null_or_none, numbers_used_up}
-use Rattle.client_spec.proofs.Runs.KeptByRunLaws.{Each, EachOne}
 use Rattle.client_spec.specs.Run.{Machine, Ending, finished, stopped, Way, Nothing, Then, OneStep, picked, Performs, Loops, Run, RunOne}
 
 same_turns : (o : Option ℤ) (j k : ℤ) → o ≡ Some j → o ≡ Some k → j ≡ k
 same_turns o j k e f = (let g : Some j ≡ Some k = sym e ∙ f in cc)
 
 -- `Related x z`: the runs are at the same point. `Ahead x z`: the output of x failed, and z has
--- written more. Each instruction of the code has the property Q.
-module _ (S : Type 0) (machine : Machine S) (Q : Instruction → Type 0) (Related Ahead : S → S → Type 0) where
+-- written more.
+module _ (S : Type 0) (machine : Machine S) (Related Ahead : S → S → Type 0) where
   -- how two runs end: at the same point, or the output of one failed before
   pub data Meet (y : S) (n : ℕ) (end : Ending) (w : S) (m : ℕ) (other : Ending) : Type 0 where
     together : Related y w → n ≡ m → end ≡ other → Meet y n end w m other
@@ -21,7 +20,7 @@ module _ (S : Type 0) (machine : Machine S) (Q : Instruction → Type 0) (Relate
 
   -- what the machine's steps do
   pub record StepsMeet : Type 0 where
-    pub rows : (i : Instruction) (x z y w : S) (a b : Answer) → Q i → Related x z → machine.row i x a y → machine.row i z b w → (a ≡ b) × Related y w
+    pub rows : (i : Instruction) (x z y w : S) (a b : Answer) → Related x z → machine.row i x a y → machine.row i z b w → (a ≡ b) × Related y w
     pub stops : (i : Instruction) (x z y w : S) → Related x z → machine.stop i x y → machine.stop i z w → Meet y 1 stopped w 1 stopped
     pub row_and_stop : (i : Instruction) (x z y w : S) (a : Answer) → Related x z → machine.row i x a y → machine.stop i z w → Ahead w y
     pub stop_and_row : (i : Instruction) (x z y w : S) (b : Answer) → Related x z → machine.stop i x y → machine.row i z b w → Ahead y w
@@ -90,8 +89,8 @@ module _ (S : Type 0) (machine : Machine S) (Q : Instruction → Type 0) (Relate
     picked_meets p q f g null_or_none = g
     picked_meets p q f g numbers_used_up = g
 
-    performs_meets : (i : Instruction) (p q : Way S) → Q i → Meets p → Meets q → Meets (Performs S machine i p q)
-    performs_meets i p q has f g = record { each = λ x z y w n m end other r. by x z y w n m end other r; ahead = λ u x y n end. ahead u x y n end }
+    performs_meets : (i : Instruction) (p q : Way S) → Meets p → Meets q → Meets (Performs S machine i p q)
+    performs_meets i p q f g = record { each = λ x z y w n m end other r. by x z y w n m end other r; ahead = λ u x y n end. ahead u x y n end }
       where
         ahead : (u x y : S) (n : ℕ) (end : Ending) → Performs S machine i p q x y n end → Ahead u x → Ahead u y
         ahead u x y n end (inl a) l = (picked_meets p q f g a.0).ahead u a.1 y a.2 end a.4 (steps.row_ahead i u x a.1 a.0 a.3 l)
@@ -100,7 +99,7 @@ module _ (S : Type 0) (machine : Machine S) (Q : Instruction → Type 0) (Relate
 
         by : (x z y w : S) (n m : ℕ) (end other : Ending) → Related x z → Performs S machine i p q x y n end → Performs S machine i p q z w m other → Meet y n end w m other
         by x z y w n m end other r (inl a) (inl b) =
-            let one = steps.rows i x z a.1 b.1 a.0 b.0 has r a.3 b.3 in
+            let one = steps.rows i x z a.1 b.1 a.0 b.0 r a.3 b.3 in
             let rest = subst (λ c. picked c p q b.1 w b.2 other) (sym one.0) b.4 in
             elim ((picked_meets p q f g a.0).each a.1 b.1 y w a.2 b.2 end other one.1 a.4 rest) [
               | together last k_is ends ↦ together last (a.5 ∙ ap (λ k. 1 + k) k_is ∙ sym b.5) ends
@@ -144,11 +143,11 @@ module _ (S : Type 0) (machine : Machine S) (Q : Instruction → Type 0) (Relate
     mutual
       unfolding Run
 
-      pub code_meets : (cs : Statements) → Each Q cs → Meets (Run S machine cs)
-      code_meets no_more q = nothing_meets
-      code_meets (next c cs) q = then_meets _ _ (one_meets c q.0) (code_meets cs q.1)
+      pub code_meets : (cs : Statements) → Meets (Run S machine cs)
+      code_meets no_more = nothing_meets
+      code_meets (next c cs) = then_meets _ _ (one_meets c) (code_meets cs)
 
-      one_meets : (c : Statement) → EachOne Q c → Meets (RunOne S machine c)
-      one_meets (plain i) q = performs_meets i _ _ q nothing_meets nothing_meets
-      one_meets (opener i on_success on_code) q = performs_meets i _ _ q.0 (code_meets on_success q.1) (code_meets on_code q.2)
-      one_meets (loop i body) q = then_meets _ _ tick_meets (turns_meet i.b (nat_abs i.number) _ (code_meets body q))
+      one_meets : (c : Statement) → Meets (RunOne S machine c)
+      one_meets (plain i) = performs_meets i _ _ nothing_meets nothing_meets
+      one_meets (opener i on_success on_code) = performs_meets i _ _ (code_meets on_success) (code_meets on_code)
+      one_meets (loop i body) = then_meets _ _ tick_meets (turns_meet i.b (nat_abs i.number) _ (code_meets body))

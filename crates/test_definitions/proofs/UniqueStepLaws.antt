@@ -25,7 +25,7 @@ use Rattle.client_spec.specs.Pictures.{Pictures, meaning_in}
 use Rattle.client_spec.specs.Asks.{if_absent, unique_asks, AsksBy, ReturnsBy, GrantsAsks, ChangesOnSuccess}
 use Rattle.client_spec.specs.Ties.{Spot, nowhere, keeps_image, TouchesBy, GetsBlock, UniquesCome, ObjectsComeBy}
 use Rattle.client_spec.specs.OnImages.{Move, Situation, RowWith, RowOn}
-use Rattle.test_definitions.specs.Alike.{Idle, StandAlike, StaysAlike}
+use Rattle.test_definitions.specs.Alike.{StandAlike, StaysAlike}
 use Rattle.test_definitions.proofs.AlikeChangeLaws.{root_one}
 use Rattle.test_definitions.proofs.AnsweredRowLaws.{from_answer}
 use Rattle.test_definitions.proofs.AlikeRootLaws.{of_type}
@@ -35,7 +35,7 @@ use Rattle.test_definitions.proofs.FrozenApartLaws.{among_either}
 use Rattle.test_definitions.proofs.GrownImageLaws.{Grows, owner_in}
 use Rattle.test_definitions.proofs.GrownStepLaws.{both_as_before, both_grown}
 use Rattle.test_definitions.proofs.IndexAlikeLaws.{index_long, index_is_long, NodesStay, whole_nodes}
-use Rattle.test_definitions.proofs.KeptRowLaws.{owned_kept, one, unchanged_alike, one_before, plain_before, idle_alike}
+use Rattle.test_definitions.proofs.KeptRowLaws.{Idle, owned_kept, one, unchanged_alike, one_before, plain_before, idle_alike}
 use Rattle.test_definitions.proofs.ListedRootLaws.{types_listed, found_of_type, type_is}
 use Rattle.test_definitions.proofs.NewBlockLaws.{one_block}
 use Rattle.test_definitions.proofs.NewObjectLaws.{granted_lives, kept_beside, tables, names_same, same_unique, owned_same}

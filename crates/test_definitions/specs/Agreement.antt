@@ -1,10 +1,7 @@
 -- Two runs of the same code over images that are alike, and two outcomes of the same clients. An
 -- output may fail at any byte, so one of them may end earlier than the other.
---     StayAlike i                  situations that clients can't tell apart stay so after this
---                                  instruction
---     AllStayAlike clients         all instructions of these clients have this property
---     settles i                    this is proved of the instruction
---     RunAlike others x z          such situations, at one step of the run and one base
+--     RunAlike others x z          situations that clients can't tell apart, at one step of the run
+--                                  and one base
 --     IsLonger xs ys               ys is xs with more bytes after it
 --     AlikeUpTo others y n end w m other
 --                                  two runs end in situations that are alike, or the output of
@@ -24,19 +21,6 @@ use Rattle.client_spec.proofs.Runs.KeptByRunLaws.{Each}
 use Rattle.test_definitions.specs.Alike.{AreAlike, StandAlike, StaysAlike, is_settled}
 
 -- ---- two runs
-
-abbrev pub StayAlike : Instruction → Type 0
-StayAlike i = (constants : List Constant) (others : List Root) (moves : List Move)
-    (x z y w : Situation) (first second : Answer) → StandAlike others x z →
-    RowOn constants others moves i x first y → RowOn constants others moves i z second w →
-    StaysAlike others first second y w
-
-abbrev pub AllStayAlike : List Client → Type 0
-AllStayAlike [] = ⊤
-AllStayAlike (client ∷ clients) = Each StayAlike client.code × AllStayAlike clients
-
-abbrev pub settles : Instruction → Bool
-settles i = is_settled i.operation
 
 pub record RunAlike (others : List Root) (x z : Situation) : Type 0 where
   pub stand : StandAlike others x z

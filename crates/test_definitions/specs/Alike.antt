@@ -8,10 +8,6 @@
 --     AlikeRoot first second table root    each of the root's values does
 --     AreAlike others places first second  the images have the same header, allocated blocks, index
 --                                          and roots; registers own the objects at these positions
---     is_settled operation                 images that are alike are proved to be alike again after
---                                          this operation, whatever its answer
---     Idle constants i pictured operation  the instruction finds what it would make, or lacks what
---                                          it would destroy
 --     StandAlike others x z                two situations with one state and one list of owned
 --                                          objects, whose images are alike
 --     StaysAlike others first second y w   one answer from both, and the situations are still alike
@@ -75,46 +71,6 @@ pub record AreAlike (others : List Root) (places first second : List ℕ) : Type
   pub loose : picture.loose ≡ others ++ own
   pub owned_are : places_of own ≡ places
   pub roots : AllByRecursion (AlikeRoot first second picture.table) (roots_of picture)
-
-abbrev pub is_settled : Operation → Bool
-is_settled Operation.Store = true
-is_settled Operation.SetStr = true
-is_settled Operation.AddStr = true
-is_settled Operation.AddByte = true
-is_settled Operation.Shrink = true
-is_settled Operation.PushBack = true
-is_settled Operation.PushFront = true
-is_settled Operation.PutKey = true
-is_settled Operation.New = true
-is_settled Operation.Drop = true
-is_settled Operation.Make = true
-is_settled Operation.FindOrMake = true
-is_settled Operation.MakeUnique = true
-is_settled Operation.FindOrMakeUnique = true
-is_settled Operation.PopBack = true
-is_settled Operation.PopFront = true
-is_settled Operation.DeleteKey = true
-is_settled Operation.Kill = true
-is_settled Operation.KillUnique = true
-is_settled Operation.Clear = true
-is_settled Operation.Share = true
-is_settled Operation.Put = true
-is_settled Operation.Take = true
-is_settled operation = not (writes_image operation)
-
-module _ (constants : List Constant) (i : Instruction) {others : List Root} {s : State}
-    {bytes : List ℕ} (pictured : Pictures others s bytes) where
-  abbrev pub Idle : Operation → Type 0
-  Idle Operation.FindOrMake = (root : Root) × ((name_operand constants i s >>= λ name.
-      root_named pictured.picture.names name) ≡ Some root)
-  Idle Operation.Kill = (name_operand constants i s >>= λ name.
-      killed (root_named pictured.picture.names name) (type_operand i.number)) ≡ None
-  Idle Operation.FindOrMakeUnique =
-      (root : Root) × (root_of_type pictured.picture.uniques (nat_abs i.number) ≡ Some root)
-  Idle Operation.KillUnique = root_of_type pictured.picture.uniques (nat_abs i.number) ≡ None
-  Idle Operation.PutKey = (j : ℕ) × (found_key i s ≡ Some j)
-  Idle Operation.DeleteKey = found_key i s ≡ None
-  Idle operation = ⊥
 
 -- steps, base and host aren't compared
 pub record StandAlike (others : List Root) (x z : Situation) : Type 0 where

@@ -4,7 +4,6 @@ ghost use Rattle.std.specs.Prelude.{◌≡◌, ◌≢◌, ℕ, List, [], length,
 ghost use Rattle.seg_spec.specs.Types.{Agree};
 ghost use Rattle.seg_spec.specs.Index.{Root};
 ghost use Rattle.seg_spec.specs.Fixtures.{counter};
-ghost use Rattle.client_sim.specs.Staying.{code_passes};
 ghost use Rattle.test_definitions.specs.RefusedOutcomes.{IsOutcomeOf};
 ghost use Rattle.client_spec.specs.Syntax.{Constant, Instruction, Statements, Client};
 ghost use Rattle.client_spec.specs.Run.{Ending, stopped, Run};
@@ -12,16 +11,15 @@ ghost use Rattle.client_spec.specs.OnImages.{Move, Situation, image_machine, Giv
 ghost use Rattle.client_spec.specs.Fixtures.{increment};
 ghost use Rattle.client_spec.specs.Clients.{outputs, ending_after};
 ghost use Rattle.client_spec.specs.Outcome.{IsOutcome};
-ghost use Rattle.client_spec.proofs.Runs.KeptByRunLaws.{Each};
 ghost use Rattle.test_definitions.specs.Alike.{AreAlike, StandAlike};
-ghost use Rattle.test_definitions.specs.Agreement.{StayAlike, AllStayAlike, settles, RunAlike, IsLonger, AlikeUpTo, AllAgree, OneOutcome};
+ghost use Rattle.test_definitions.specs.Agreement.{RunAlike, IsLonger, AlikeUpTo, AllAgree, OneOutcome};
 
-/// If each instruction of some code keeps situations alike, two runs of the code from such situations take the same steps and end
-/// alike. An output may fail in one of them; the other then writes more.
+/// Two runs of the same code from situations that are alike take the same steps and end alike. An output may fail in one of them;
+/// the other then writes more.
 pub fn two_runs()
     ensures { (constants : List Constant) (others : List Root) (moves : List Move)
-        (code : Statements) → Each StayAlike code → (x z y w : Situation) (n m : ℕ)
-        (end other : Ending) → RunAlike others x z →
+        (code : Statements) (x z y w : Situation) (n m : ℕ) (end other : Ending) →
+        RunAlike others x z →
         Run Situation (image_machine constants others moves) code x y n end →
         Run Situation (image_machine constants others moves) code z w m other →
         AlikeUpTo others y n end w m other }
@@ -45,36 +43,24 @@ pub fn last_situations()
         AreAlike given.others [] left.image left_too.image }
 {}
 
-/// If each instruction of the clients keeps situations alike, two outcomes of the same image, texts, input, room, base and moves
-/// agree: they have the same steps, input read, endings, output and bases, and leave images that are alike. An output may fail in
-/// one of them: its output is then the beginning of the other's. So two outcomes agree if they wrote as many bytes, or if no output
-/// failed.
+/// Two outcomes of the same image, texts, input, room, base and moves agree: they have the same steps, input read, endings, output
+/// and bases, and leave images that are alike. An output may fail in one of them: its output is then the beginning of the other's.
+/// So two outcomes agree if they wrote as many bytes, or if no output failed.
 pub fn one_outcome()
     ensures up_to_a_failure { (image : List ℕ) (texts : List (List ℕ)) (input : List ℕ)
         (room base : ℕ) (moves : List Move) (lefts others : List Left) →
-        (outcome : IsOutcome image texts input room base moves lefts) →
-        AllStayAlike outcome.can_run.clients →
+        IsOutcome image texts input room base moves lefts →
         IsOutcome image texts input room base moves others → OneOutcome lefts others }
     ensures of_one_length { (image : List ℕ) (texts : List (List ℕ)) (input : List ℕ)
         (room base : ℕ) (moves : List Move) (lefts others : List Left) →
-        (outcome : IsOutcome image texts input room base moves lefts) →
-        AllStayAlike outcome.can_run.clients →
+        IsOutcome image texts input room base moves lefts →
         IsOutcome image texts input room base moves others →
         length (outputs others) ≡ length (outputs lefts) → AllAgree lefts others }
     ensures without_failures { (image : List ℕ) (texts : List (List ℕ)) (input : List ℕ)
         (room base : ℕ) (moves : List Move) (lefts others : List Left) →
-        (outcome : IsOutcome image texts input room base moves lefts) →
-        AllStayAlike outcome.can_run.clients →
+        IsOutcome image texts input room base moves lefts →
         IsOutcome image texts input room base moves others →
         ending_after lefts ≢ stopped → ending_after others ≢ stopped → AllAgree lefts others }
-{}
-
-/// Situations stay alike after every instruction but MAKE, FINDOR, KILL, UKILL, PUT, TAKE and FREEZE. So `one_outcome` needs no premise
-/// for clients without these seven.
-pub fn settled_instructions()
-    ensures instruction { (i : Instruction) → settles i ≡ true → StayAlike i }
-    ensures code { (code : Statements) →
-        code_passes settles code ≡ true → Each StayAlike code }
 {}
 
 /// In each outcome the increment of the number 41 named x takes 6 steps and prints 42, unless its output fails. Then the output is a

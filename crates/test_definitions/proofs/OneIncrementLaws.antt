@@ -1,5 +1,4 @@
--- Code whose instructions all keep situations alike keeps them alike. So the increment has one
--- outcome.
+-- The increment has one outcome.
 use Rattle.std.proofs.Common.{◌≡◌, ◌≢◌, ℕ, inl, inr, true, List, [], ◌∷◌, ◌++◌, get_or, refl, sym, ap, ◌∙◌, subst, arith}
 use Rattle.std.specs.Prelude.{codes, ◌&&◌}
 use Rattle.std.proofs.lemmas.List.{append-nil}
@@ -22,36 +21,9 @@ use Rattle.test_definitions.proofs.OneOutcomeLaws.{outcomes_alike}
 use Rattle.test_definitions.proofs.IncrementLaws.{increment_spelled}
 use Rattle.test_definitions.proofs.CounterRun.{left, outcome_is}
 
-pub settled_stays : (i : Instruction) → settles i ≡ true → StayAlike i
-settled_stays i e constants others moves = settled_alike constants others moves i e
-
-mutual
-  pub code_stays : (cs : Statements) → code_passes settles cs ≡ true → Each StayAlike cs
-  code_stays no_more e = tt
-  code_stays (next c cs) e = (let both = both_true (statement_passes settles c) (code_passes settles cs) e in (one_stays c both.0, code_stays cs both.1))
-
-  one_stays : (c : Statement) → statement_passes settles c ≡ true → EachOne StayAlike c
-  one_stays (plain i) e = settled_stays i e
-  one_stays (opener i on_success on_code) e =
-      let first = both_true (settles i) (code_passes settles on_success && code_passes settles on_code) e in
-      let parts = both_true (code_passes settles on_success) (code_passes settles on_code) first.1 in
-      (settled_stays i first.0, code_stays on_success parts.0, code_stays on_code parts.1)
-  one_stays (loop i body) e = code_stays body e
-
--- ---- the increment
-
--- the one client that the text spells
-one_spelled : (table : Table) (client : Client) (clients : List Client) → SpellsClient (client_bytes client) client → AreAccepted table (client_bytes client ∷ []) clients → clients ≡ client ∷ []
-one_spelled table client [] spells a = absurd a
-one_spelled table client (c ∷ []) spells a = ap (λ (d : Client). d ∷ []) (one_client c client a.0.valid spells.valid (sym a.0.spelled ∙ spells.spelled))
-one_spelled table client (c ∷ d ∷ ds) spells a = absurd a.2
-
 module _ (other : Left) (o : IsOutcomeOf increment counter other) where
-  all_stay : AllStayAlike outcome_is.can_run.clients
-  all_stay = subst AllStayAlike (sym (one_spelled outcome_is.can_run.sound.picture.table increment outcome_is.can_run.clients increment_spelled outcome_is.can_run.accepted)) (code_stays increment.code refl, tt)
-
   one : OneOutcome (left ∷ []) (other ∷ [])
-  one = outcomes_alike counter (client_bytes increment ∷ []) [] 2048 0 [] (left ∷ []) (other ∷ []) outcome_is all_stay o
+  one = outcomes_alike counter (client_bytes increment ∷ []) [] 2048 0 [] (left ∷ []) (other ∷ []) outcome_is o
 
   -- it takes 6 steps and prints 42, unless its output fails
   pub increments : other.ending ≢ stopped → (other.steps ≡ 6) × (other.output ≡ codes "42\n")
