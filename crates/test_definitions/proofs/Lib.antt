@@ -92,6 +92,7 @@ pub mod ApartStepLaws
 pub mod MovedStepLaws
 pub mod OwnCellLaws
 pub mod TakeStepLaws
+pub mod OwnerMoveLaws
 pub mod PutStepLaws
 pub mod AlikeRowLaws
 pub mod Several
