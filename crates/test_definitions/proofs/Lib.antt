@@ -94,6 +94,8 @@ pub mod OwnCellLaws
 pub mod TakeStepLaws
 pub mod OwnerMoveLaws
 pub mod PutStepLaws
+pub mod SharedPlaceLaws
+pub mod FreezeStepLaws
 pub mod AlikeRowLaws
 pub mod Several
 pub mod Whole
