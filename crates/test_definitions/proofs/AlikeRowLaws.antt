@@ -21,6 +21,7 @@ use Rattle.test_definitions.proofs.DropStepLaws.{drop_alike}
 use Rattle.test_definitions.proofs.PopFrontStepLaws.{pop_front_alike}
 use Rattle.test_definitions.proofs.TakeStepLaws.{take_alike}
 use Rattle.test_definitions.proofs.PutStepLaws.{put_alike}
+use Rattle.test_definitions.proofs.FreezeStepLaws.{freeze_alike}
 
 module _ (constants : List Constant) (others : List Root) (moves : List Move) (i : Instruction) (x z y w : Situation) (first second : Answer) (stand : StandAlike others x z) (r : RowOn constants others moves i x first y)
     (q : RowOn constants others moves i z second w) where
@@ -48,7 +49,7 @@ module _ (constants : List Constant) (others : List Root) (moves : List Move) (i
   by_operation Operation.PopBack is e = cc
   by_operation Operation.PutKey is e = adding_alike constants others moves i (inr (inr is)) x z y w first second stand r q
   by_operation Operation.DeleteKey is e = cc
-  by_operation Operation.Freeze is e = cc
+  by_operation Operation.Freeze is e = freeze_alike constants others moves i is x z y w first second stand r q
   by_operation o is e = unchanged_alike constants others moves i x z y w first second stand r q (ap (λ p. keeps_image p first) is ∙ reads_keep o refl first)
 
 pub settled_alike : (constants : List Constant) (others : List Root) (moves : List Move) (i : Instruction) → is_settled i.operation ≡ true → (x z y w : Situation) (first second : Answer) → StandAlike others x z

@@ -1,5 +1,4 @@
--- Two situations that clients can't tell apart stay so after FREEZE, if the new frozen object gets the next
--- number. Rows don't state its number, so this is a premise.
+-- Two situations that clients can't tell apart stay so after FREEZE.
 use Rattle.std.specs.Prelude.{ℤ, pos, ◌==◌, ◌&&◌, not}
 use Rattle.std.proofs.Common.{◌≡◌, ◌≢◌, ℕ, suc, ◌+◌, ◌≤◌, ◌⊎◌, inl, inr, Bool, true, false, List, [], ◌∷◌, ◌++◌, length, Option, Some, None, refl, sym, ap, ◌∙◌, subst, arith}
 use Rattle.std.specs.List.{AllByRecursion}
@@ -110,11 +109,6 @@ freeze_row constants o is a b c number room s t e p path =
 
 -- ---- frozen objects
 
--- the words before the value of a new frozen object
-pub record NewWords (bytes : List ℕ) (payload T number : ℕ) : Type 0 where
-  pub tagged : tag_at bytes (block_of payload) ≡ tag_of Kind.frozen T
-  pub numbered : word bytes (payload + 4) ≡ number
-
 raise : (n : ℕ) (fs : List Frozen) (z : Place) → IsBelow n fs z → IsBelow (suc n) fs z
 raise n [] z b = b
 raise n (f ∷ fs) z (inl b) = inl (b.0, b.1, omega (arith, b.2))
@@ -157,8 +151,7 @@ record FreezeRow (constants : List Constant) (others : List Root) (i : Instructi
   none_came : (n : ℕ) (a : Root) → root_of_register s.registers side.move.before.owned n ≡ None → root_of_register t.registers after.owned n ≡ Some a → ⊥
 
 module _ (constants : List Constant) (others : List Root) (moves : List Move) (i : Instruction) (is : i.operation ≡ Operation.Freeze) (x y : Situation) (row : RowOn constants others moves i x success y) (places : List ℕ)
-    (places_are : x.owned ≡ places)
-    (known : NewWords y.image (freeze_keeps constants others moves i x y row is).payload (freeze_keeps constants others moves i x y row is).root.type (word x.image next_word)) where
+    (places_are : x.owned ≡ places) where
   abbrev p : Pictures others row.before.plain x.image
   p = row.before.pictured
 
@@ -320,7 +313,7 @@ module _ (constants : List Constant) (others : List Root) (moves : List Move) (i
   new_content : (f : Frozen) → IsOneOf f row.after.pictured.picture.frozen → f.at ≡ freeze.payload → SameContent fresh f
   new_content f j at =
       let k = frozen_held q f j in
-      let tags = sym k.3 ∙ ap (λ n. tag_at y.image (block_of n)) at ∙ known.tagged in
+      let tags = sym k.3 ∙ ap (λ n. tag_at y.image (block_of n)) at ∙ freeze.tagged in
       let types : f.type ≡ freeze.root.type = omega (arith, tags) in
       let moves_here = subst (λ (t : Table). Persists x.image y.image t (object_at freeze.root.at freeze.root.type) (object_at (freeze.payload + frozen_words) freeze.root.type)) (sym p.types) freeze.moves in
       let now = Holds-persists x.image y.image p.picture.table was.2 moves_here in
@@ -330,7 +323,7 @@ module _ (constants : List Constant) (others : List Root) (moves : List Move) (i
       record {
         at = at;
         type = types;
-        number = sym k.4 ∙ ap (λ n. word y.image (n + 4)) at ∙ known.numbered;
+        number = sym k.4 ∙ ap (λ n. word y.image (n + 4)) at ∙ freeze.numbered;
         value = (Holds-one y.image p.picture.table moved now).0;
       }
 
@@ -366,23 +359,17 @@ module _ (constants : List Constant) (others : List Root) (moves : List Move) (i
 
 -- ---- both images
 
--- what rows don't state of the new frozen object
-abbrev pub NewNumbers : (constants : List Constant) (others : List Root) (moves : List Move) (i : Instruction) → i.operation ≡ Operation.Freeze → Type 0
-NewNumbers constants others moves i is = (x y : Situation) (row : RowOn constants others moves i x success y)
-    → NewWords y.image (freeze_keeps constants others moves i x y row is).payload (freeze_keeps constants others moves i x y row is).root.type (word x.image next_word)
-
 module _ (constants : List Constant) (others : List Root) (moves : List Move) (i : Instruction) (is : i.operation ≡ Operation.Freeze)
-    (known : NewNumbers constants others moves i is)
     (x z y w : Situation) (stand : StandAlike others x z) (r : RowOn constants others moves i x success y) (q : RowOn constants others moves i z success w) where
   mine : FreezeRow constants others i x.owned x.image y.image r.after.pictured r.before.plain
-  mine = freeze_there constants others moves i is x y r x.owned refl (known x y r)
+  mine = freeze_there constants others moves i is x y r x.owned refl
 
   theirs : FreezeRow constants others i x.owned z.image w.image q.after.pictured r.before.plain
   theirs = subst (FreezeRow constants others i x.owned z.image w.image q.after.pictured) (sym (plain_before constants others moves i x z y w success success stand r q))
-      (freeze_there constants others moves i is z w q x.owned stand.owned (known z w q))
+      (freeze_there constants others moves i is z w q x.owned stand.owned)
 
   refers : RefersTo r.before.plain i.b
-  refers = found constants others moves i is x y r x.owned refl (known x y r)
+  refers = found constants others moves i is x y r x.owned refl
 
   record SideAt (place : Place) (root : Root) : Type 0 where
     side : MovedSide constants others i x.owned z.image w.image q.after.pictured place (Form.shared root.type) r.before.plain
@@ -509,9 +496,8 @@ module _ (constants : List Constant) (others : List Root) (moves : List Move) (i
       owned n a b e f (Some c) g = match_owned constants others moves i x z y w stand r q mine.place (Form.shared mine.root.type) mine.side there_too.side (there_too.gone_is ∙ sym mine.gone_is) refers inner n c a b g e f
 
 pub freeze_alike : (constants : List Constant) (others : List Root) (moves : List Move) (i : Instruction) → (is : i.operation ≡ Operation.Freeze)
-    → NewNumbers constants others moves i is
     → (x z y w : Situation) (first second : Answer) → StandAlike others x z → RowOn constants others moves i x first y → RowOn constants others moves i z second w → StaysAlike others first second y w
-freeze_alike constants others moves i is known x z y w success second stand r q =
+freeze_alike constants others moves i is x z y w success second stand r q =
     let same : success ≡ second = (one constants others moves i x z y w success second stand r q).0 in
-    subst (λ k. StaysAlike others success k y w) same (both_frozen constants others moves i is known x z y w stand r (subst (λ k. RowOn constants others moves i z k w) (sym same) q))
-freeze_alike constants others moves i is known x z y w first second stand r q = unchanged_alike constants others moves i x z y w first second stand r q (ap (λ o. keeps_image o first) is)
+    subst (λ k. StaysAlike others success k y w) same (both_frozen constants others moves i is x z y w stand r (subst (λ k. RowOn constants others moves i z k w) (sym same) q))
+freeze_alike constants others moves i is x z y w first second stand r q = unchanged_alike constants others moves i x z y w first second stand r q (ap (λ o. keeps_image o first) is)

@@ -94,6 +94,7 @@ is_settled Operation.Clear = true
 is_settled Operation.Share = true
 is_settled Operation.Put = true
 is_settled Operation.Take = true
+is_settled Operation.Freeze = true
 is_settled operation = not (writes_image operation)
 
 module _ (constants : List Constant) (i : Instruction) {others : List Root} {s : State}
