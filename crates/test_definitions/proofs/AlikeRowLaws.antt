@@ -22,6 +22,7 @@ use Rattle.test_definitions.proofs.DropStepLaws.{drop_alike}
 use Rattle.test_definitions.proofs.RemovingStepLaws.{removing_alike}
 use Rattle.test_definitions.proofs.TakeStepLaws.{take_alike}
 use Rattle.test_definitions.proofs.PutStepLaws.{put_alike}
+use Rattle.test_definitions.proofs.FreezeStepLaws.{freeze_alike}
 use Rattle.test_definitions.proofs.KillStepLaws.{kill_alike}
 use Rattle.test_definitions.proofs.KillUniqueStepLaws.{kill_unique_alike}
 
@@ -51,7 +52,7 @@ module _ (constants : List Constant) (others : List Root) (moves : List Move) (i
   by_operation Operation.PopBack is = removing_alike constants others moves i (inl is) x z y w first second stand r q
   by_operation Operation.PutKey is = adding_alike constants others moves i (inr (inr is)) x z y w first second stand r q
   by_operation Operation.DeleteKey is = removing_alike constants others moves i (inr (inr is)) x z y w first second stand r q
-  by_operation Operation.Freeze is = cc
+  by_operation Operation.Freeze is = freeze_alike constants others moves i is x z y w first second stand r q
   by_operation o is = unchanged_alike constants others moves i x z y w first second stand r q (ap (λ p. keeps_image p first) is ∙ reads_keep o refl first)
 
 pub step_alike : (constants : List Constant) (others : List Root) (moves : List Move) (i : Instruction) (x z y w : Situation) (first second : Answer) → StandAlike others x z → RowOn constants others moves i x first y

@@ -1,11 +1,11 @@
 -- An instruction that changes one place, the blocks of its value, the blocks of an object that moves, and
 -- perhaps frozen objects: every other root with an owner persists, and in the place's own root everything
 -- around the place.
-use Rattle.std.proofs.Common.{◌≡◌, ℕ, ◌+◌, ◌*◌, ◌<◌, ◌≤◌, ◌⊎◌, inl, inr, List, [], ◌∷◌, ◌++◌, Some, refl, sym, ap, ◌∙◌, subst, arith}
+use Rattle.std.proofs.Common.{◌≡◌, ℕ, ◌+◌, ◌*◌, ◌≤◌, ◌⊎◌, inl, inr, List, ◌∷◌, ◌++◌, Some, refl, sym, ap, ◌∙◌, subst, arith}
 use Rattle.std.specs.List.{AllByRecursion}
 use Rattle.seg_spec.specs.Bytes.{word}
-use Rattle.seg_spec.specs.Header.{allocator_word, next_word}
-use Rattle.seg_spec.specs.Types.{Table, size}
+use Rattle.seg_spec.specs.Header.{allocator_word}
+use Rattle.seg_spec.specs.Types.{size}
 use Rattle.seg_spec.specs.Value.{Value, Values, count, nth, value_at, with_value_at}
 use Rattle.seg_spec.specs.Heap.{live, units_at, tag_at}
 use Rattle.seg_spec.specs.Block.{block_of, KeepsBlock}
@@ -17,8 +17,8 @@ use Rattle.seg_spec.specs.Frozen.{Frozen}
 use Rattle.seg_spec.specs.Sound.{HoldsRoot, payload_of, times, positions}
 use Rattle.seg_spec.specs.Shared.{names_in, names_each, IsBelow}
 use Rattle.seg_spec.specs.Counting.{owners_in}
-use Rattle.seg_spec.specs.Roots.{RootComesApart, PartComesApart, item_of, with_item}
-use Rattle.seg_spec.proofs.Heap.LiveBlockLaws.{OneOrApart, times-append, times-same, there, each_there, live-apart}
+use Rattle.seg_spec.specs.Roots.{PartComesApart, item_of, with_item}
+use Rattle.seg_spec.proofs.Heap.LiveBlockLaws.{OneOrApart, times-append, there, each_there, live-apart}
 use Rattle.seg_spec.proofs.Values.OneValueLaws.{Holds-one, HoldsEach-one}
 use Rattle.seg_spec.proofs.Values.PartPositionLaws.{separate_parts}
 use Rattle.seg_spec.proofs.Values.PathSplitLaws.{middle, split, nth-append, count_is}
@@ -30,7 +30,7 @@ use Rattle.client_spec.specs.Machine.{Path, State, at_origin}
 use Rattle.client_spec.specs.Pictures.{Pictures, LeadsInImage}
 use Rattle.client_spec.specs.Ties.{spot_of}
 use Rattle.test_definitions.proofs.AroundPersistLaws.{surrounded_leads}
-use Rattle.test_definitions.proofs.ChangedPlaceLaws.{KeepsOwners, OtherRoot, apart, beside_frozen, its_owned, in_all, once, within, its_within, index_beside, own_below, each_owner}
+use Rattle.test_definitions.proofs.ChangedPlaceLaws.{KeepsOwners, OtherRoot, apart, its_owned, in_all, once, within, index_beside, own_below, each_owner}
 use Rattle.test_definitions.proofs.FrozenApartLaws.{frozen_apart}
 use Rattle.test_definitions.proofs.PersistAlikeLaws.{Fits}
 use Rattle.test_definitions.proofs.PlaceStepLaws.{nothing_changes}
@@ -161,8 +161,8 @@ module _ {others : List Root} {s : State} {old : List ℕ} (p : Pictures others 
       let m = middle new p.picture.table here l.item (item_of p.picture.table l.root l.item) (items_nth p.picture.table l.root.at l.root.type n l.item (within p old path place l found begins its holds_it still)) in
       let cut = split new p.picture.table (surrounded_leads old new p.picture.table own_stays.surrounded) m.holds_it in
       let then_is = part.becomes new cut.value cut.its
-      (each_there (KeepsBlockAround old new place.at (size p.picture.table place.type)) (part.left ++ part.right) (λ b some. around_root b (omega (arith, its_are b, some)) (omega
-          (arith, its_are b, some, root_live b, one_at_most b)))) cut.holds_it in
+      (each_there (KeepsBlockAround old new place.at (size p.picture.table place.type)) (part.left ++ part.right)
+      (λ b some. around_root b (omega (arith, its_are b, some)) (omega (arith, its_are b, some, root_live b, one_at_most b)))) cut.holds_it in
       let same = count-change_nth (Some l.item) (with_value_at path.selectors cut.value) l.root.values in
       let values = subst (λ k. HoldsEach new p.picture.table (items p.picture.table l.root.at l.root.type k) (with_item l.root l.item (with_value_at path.selectors cut.value)).values then_is.inside) same then_is.values in
       let index : l.item ≡ count m.left = sym m.at_is ∙ count_is new p.picture.table m.lefts in

@@ -1,12 +1,12 @@
 -- The image after an instruction that changes one place and moves an object: an object that stays has its
 -- face, each frozen object was there before, and so was each node of a tree index.
-use Rattle.std.proofs.Common.{◌≡◌, ◌≢◌, ℕ, ◌+◌, ◌≤◌, ◌⊎◌, inl, inr, List, [], ◌∷◌, ◌++◌, length, Some, refl, sym, ap, ◌∙◌, subst, arith}
+use Rattle.std.proofs.Common.{◌≡◌, ◌≢◌, ℕ, ◌≤◌, ◌⊎◌, inl, inr, List, length, Some, sym, ap, ◌∙◌, subst, arith}
 use Rattle.std.specs.List.{AllByRecursion}
 use Rattle.std.proofs.lemmas.Bool.{cases_eq}
 use Rattle.seg_spec.specs.Bytes.{word}
 use Rattle.seg_spec.specs.Header.{allocator_word, next_word, index_kind_word}
 use Rattle.seg_spec.specs.Types.{Table}
-use Rattle.seg_spec.specs.Value.{Value, Values, count}
+use Rattle.seg_spec.specs.Value.{Value, count}
 use Rattle.seg_spec.specs.Heap.{live, tag_at}
 use Rattle.seg_spec.specs.Block.{block_of, tag_of, Kind, KeepsBlock}
 use Rattle.seg_spec.specs.Reads.{Place, Holds, HoldsEach, items}
@@ -24,7 +24,7 @@ use Rattle.client_spec.specs.Machine.{Path, State, at_origin}
 use Rattle.client_spec.specs.Pictures.{Pictures, LeadsInImage}
 use Rattle.client_spec.specs.Ties.{FrozenKept}
 use Rattle.test_definitions.proofs.AlikeChangeLaws.{all_fit}
-use Rattle.test_definitions.proofs.ApartPlaceLaws.{KeepsApart, Persisting, each_staying, tag_stays, now_there, now_below}
+use Rattle.test_definitions.proofs.ApartPlaceLaws.{KeepsApart, each_staying, tag_stays, now_there, now_below}
 use Rattle.test_definitions.proofs.ChangedPlaceRowLaws.{CellsWithin, all_cells, cells_of, node_tags, of_index, same_members}
 use Rattle.test_definitions.proofs.EndedImageLaws.{frozen_by, its_fewer}
 use Rattle.test_definitions.proofs.FrozenApartLaws.{frozen_apart, owner_in_roots}
@@ -81,13 +81,22 @@ module _ {others : List Root} {s s' : State} {old new : List ℕ} (p : Pictures 
   pub stand_before : (n : ℕ) (cells : List Place) → AllByRecursion (IsBelow n p.picture.frozen) cells → AllByRecursion (λ (z : Place). StandsAt z.at p.picture.frozen) cells
   stand_before n cells a = each_weaker (IsBelow n p.picture.frozen) (λ (z : Place). StandsAt z.at p.picture.frozen) (λ z b. (below_stands n p.picture.frozen z b).0) cells a
 
-  -- if the cells of all other objects point to frozen objects that there were, there are no more of them
+  -- If the cells of all other objects point to objects of a list, there are no other frozen objects. The list has
+  -- the contents of those that there are.
+  pub frozen_within : (n : ℕ) (base : List Frozen) → AllByRecursion (λ (g : Frozen). AllByRecursion (λ (z : Place). StandsAt z.at base) (names_in g.value)) base
+      → ((f g : Frozen) → IsOneOf f p'.picture.frozen → IsOneOf g base → f.at ≡ g.at → f.value ≡ g.value) → ((a : Root) → IsAmong a (owners_in p'.picture) → AllByRecursion (IsBelow n base) (names_each a.values))
+      → (f : Frozen) → IsOneOf f p'.picture.frozen → StandsAt f.at base
+  frozen_within n base falls content within f i =
+      let stand = λ (cells : List Place) (a : AllByRecursion (IsBelow n base) cells). each_weaker (IsBelow n base) (λ (z : Place). StandsAt z.at base) (λ z b. (below_stands n base z b).0) cells a in
+      let cells = all_cells (λ (z : Place). StandsAt z.at base) (owners_in p'.picture) (λ a j. stand (names_each a.values) (within a j)) in
+      all_reached (word new next_word) p'.picture.frozen (cells_in (owners_in p'.picture)) p'.counted.counted base falls cells content f i
+
+  pub frozen_fall : AllByRecursion (λ (g : Frozen). AllByRecursion (λ (z : Place). StandsAt z.at p.picture.frozen) (names_in g.value)) p.picture.frozen
+  frozen_fall = each_weaker (λ (g : Frozen). AllByRecursion (IsBelow g.number p.picture.frozen) (names_in g.value)) _ (λ g a. stand_before g.number (names_in g.value) a) p.picture.frozen p.counted.counted.falling
+
+  -- if they point to frozen objects that there were, there are no more of them
   pub frozen_were : ((a : Root) → IsAmong a (owners_in p'.picture) → AllByRecursion (IsBelow (word old next_word) p.picture.frozen) (names_each a.values)) → (f : Frozen) → IsOneOf f p'.picture.frozen → StandsAt f.at p.picture.frozen
-  frozen_were within f i =
-      let falls : AllByRecursion (λ (g : Frozen). AllByRecursion (λ (z : Place). StandsAt z.at p.picture.frozen) (names_in g.value)) p.picture.frozen =
-      each_weaker (λ (g : Frozen). AllByRecursion (IsBelow g.number p.picture.frozen) (names_in g.value)) _ (λ g a. stand_before g.number (names_in g.value) a) p.picture.frozen p.counted.counted.falling in
-      let cells = all_cells (λ (z : Place). StandsAt z.at p.picture.frozen) (owners_in p'.picture) (λ a j. stand_before (word old next_word) (names_each a.values) (within a j)) in
-      all_reached (word new next_word) p'.picture.frozen (cells_in (owners_in p'.picture)) p'.counted.counted p.picture.frozen falls cells (λ g k i j e. (content_stays k g j i e).value) f i
+  frozen_were = frozen_within (word old next_word) p.picture.frozen frozen_fall (λ g k i j e. (content_stays k g j i e).value)
 
 -- ---- objects that stay
 
@@ -129,16 +138,22 @@ module _ {others : List Root} {s s' : State} {old : List ℕ} (p : Pictures othe
         same_count = ap count pa.values_are ∙ sym (ap count pc.values_are);
       }
 
-  -- its shared cells point to frozen objects that there were
-  pub cells_below : CellsWithin p new place → (c a : Root) → Stays c → HasFace c a → IsAmong a (owners_in p'.picture) → AllByRecursion (IsBelow (word old next_word) p.picture.frozen) (names_each a.values)
-  cells_below cells c a i f j =
+  -- its shared cells point to objects of a list that has the frozen objects that there were, if those of the place's
+  -- new value do
+  pub cells_within : (n : ℕ) (fs : List Frozen) → ((z : Place) → IsBelow (word old next_word) p.picture.frozen z → IsBelow n fs z)
+      → ((w : Value) (news : List ℕ) → Holds new p.picture.table place w news → AllByRecursion (IsBelow n fs) (names_in w)) → (c a : Root) → Stays c → HasFace c a → IsAmong a (owners_in p'.picture)
+      → AllByRecursion (IsBelow n fs) (names_each a.values)
+  cells_within n fs lift cells c a i f j =
       let here = faced_values c a f j in
-      let named = cells_of (IsBelow (word old next_word) p.picture.frozen) (owners_in p.picture) c p.counted.counted.named (kept.owner c i) in
+      let named = each_weaker (IsBelow (word old next_word) p.picture.frozen) (IsBelow n fs) lift (names_each c.values)
+      (cells_of (IsBelow (word old next_word) p.picture.frozen) (owners_in p.picture) c p.counted.counted.named (kept.owner c i)) in
       elim (each_staying p new path place l found begins its holds_it moved Stays kept own c i) [
         | inl e ↦ (
             let mine = subst (λ (x : Root). HoldsEach new p.picture.table (items p.picture.table x.at x.type (count x.values)) a.values here.0) e here.1 in
-            let n = now_there p new path place l found begins its holds_it moved Stays kept own mine here.2 in
-            now_below p new path place l found begins its holds_it moved Stays kept own n (word old next_word) p.picture.frozen
-            (subst (λ (x : Root). AllByRecursion (IsBelow (word old next_word) p.picture.frozen) (names_each x.values)) e named) (cells n.now n.news n.holds_now))
-        | inr o ↦ subst (λ vs. AllByRecursion (IsBelow (word old next_word) p.picture.frozen) (names_each vs)) (HoldsEach-one new p.picture.table o.then_holds.values here.1).0 named
+            let k = now_there p new path place l found begins its holds_it moved Stays kept own mine here.2 in
+            now_below p new path place l found begins its holds_it moved Stays kept own k n fs (subst (λ (x : Root). AllByRecursion (IsBelow n fs) (names_each x.values)) e named) (cells k.now k.news k.holds_now))
+        | inr o ↦ subst (λ vs. AllByRecursion (IsBelow n fs) (names_each vs)) (HoldsEach-one new p.picture.table o.then_holds.values here.1).0 named
       ]
+
+  pub cells_below : CellsWithin p new place → (c a : Root) → Stays c → HasFace c a → IsAmong a (owners_in p'.picture) → AllByRecursion (IsBelow (word old next_word) p.picture.frozen) (names_each a.values)
+  cells_below cells = cells_within (word old next_word) p.picture.frozen (λ z b. b) cells

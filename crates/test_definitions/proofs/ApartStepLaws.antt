@@ -1,12 +1,11 @@
 -- Two images that are alike, in which an instruction changed the same place and moved the same object: the
 -- objects that stay match, and so do the frozen objects that there were, and the nodes of a tree index.
-use Rattle.std.proofs.Common.{◌≡◌, ℕ, ◌+◌, ◌≤◌, ◌⊎◌, inl, inr, List, [], ◌∷◌, ◌++◌, length, Option, Some, refl, sym, ap, ◌∙◌, subst, arith}
+use Rattle.std.proofs.Common.{◌≡◌, ℕ, ◌+◌, ◌≤◌, ◌⊎◌, inl, inr, List, ◌++◌, Option, Some, sym, ap, ◌∙◌, subst}
 use Rattle.std.specs.List.{AllByRecursion}
 use Rattle.seg_spec.specs.Bytes.{word}
 use Rattle.seg_spec.specs.Header.{allocator_word, next_word, index_kind_word}
 use Rattle.seg_spec.specs.Types.{Table}
 use Rattle.seg_spec.specs.Value.{Value, Values, count}
-use Rattle.seg_spec.specs.Heap.{live}
 use Rattle.seg_spec.specs.Block.{block_of, KeepsBlock}
 use Rattle.seg_spec.specs.Reads.{Place, Holds, HoldsEach, items}
 use Rattle.seg_spec.specs.Parts.{PersistEach}
@@ -152,8 +151,8 @@ module _ {others : List Root} {s s1 t1 : State} {places first second new other :
             let k' = subst (λ (x : Root). HoldsEach other p.picture.table (items p.picture.table x.at x.type (count x.values)) ws ys) e k in
             let n = now_there p new path place l found begins its hx moved Stays kx ox h' fits in
             let there_too = subst (λ (z : Table). HoldsEach other z (items z l.root.at l.root.type (count l.root.values)) ws ys) (sym one_table) k' in
-            let o = now_there q other path place m found begins its' hz moved' StaysToo kz oz (subst (λ (x : Root). HoldsEach other q.picture.table (items q.picture.table x.at x.type
-                (count x.values)) ws ys) begin_one.0 there_too) fits_too in
+            let o = now_there q other path place m found begins its' hz moved' StaysToo kz oz (subst
+            (λ (x : Root). HoldsEach other q.picture.table (items q.picture.table x.at x.type (count x.values)) ws ys) begin_one.0 there_too) fits_too in
             let it = inner n.now o.now n.news o.news n.holds_now n.fits (subst (λ (z : Table). Holds other z place o.now o.news) one_table o.holds_now) o.fits in
             subst (AlikeRoot new other p.picture.table) (sym e)
             (stays_alike first new second other p.picture.table l.root l.item path.selectors place (subst (AlikeRoot first second p.picture.table) e was) stays_first stays_second it h' fits k' fits_too)

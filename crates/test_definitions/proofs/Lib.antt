@@ -98,7 +98,10 @@ pub mod ApartStepLaws
 pub mod MovedStepLaws
 pub mod OwnCellLaws
 pub mod TakeStepLaws
+pub mod OwnerMoveLaws
 pub mod PutStepLaws
+pub mod SharedPlaceLaws
+pub mod FreezeStepLaws
 pub mod LostObjectLaws
 pub mod LostAlikeLaws
 pub mod RemovedRootLaws

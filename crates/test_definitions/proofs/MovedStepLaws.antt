@@ -1,6 +1,6 @@
 -- Two situations that clients can't tell apart stay so after an instruction that moves an object, if the
 -- objects of registers match afterwards, and what stays.
-use Rattle.std.proofs.Common.{◌≡◌, ℕ, ◌+◌, ◌≤◌, inl, inr, true, false, List, [], ◌∷◌, ◌++◌, length, Option, Some, None, refl, sym, ap, ◌∙◌, subst}
+use Rattle.std.proofs.Common.{◌≡◌, ℕ, ◌≤◌, inl, inr, false, List, ◌++◌, Option, Some, None, refl, sym, ap, ◌∙◌, subst}
 use Rattle.std.specs.Prelude.{is_some}
 use Rattle.std.specs.List.{AllByRecursion}
 use Rattle.seg_spec.specs.Bytes.{word}
@@ -55,8 +55,8 @@ pub record Moving (constants : List Constant) (others : List Root) (i : Instruct
   pub owners_stay : OwnersStay before after
   pub owners_come : OwnersCome constants i before after
 
-abbrev pub moving : (constants : List Constant) (others : List Root) (moves : List Move) (i : Instruction) → changes_names i.operation ≡ false → changes_uniques i.operation ≡ false → (x y : Situation)
-    (r : RowOn constants others moves i x success y)
+abbrev pub moving : (constants : List Constant) (others : List Root) (moves : List Move) (i : Instruction) → changes_names i.operation ≡ false → changes_uniques i.operation ≡ false
+    → (x y : Situation) (r : RowOn constants others moves i x success y)
     → (places : List ℕ) → x.owned ≡ places → Moving constants others i places x.image y.image r.after.pictured r.before.plain
 moving constants others moves i no_names no_uniques x y r places is = record {
   before = r.before.pictured;
@@ -132,8 +132,8 @@ owned_plain {others = others} p c j = each_among IsPlain c (p.picture.uniques ++
 
 -- what is true of each object that a search finds is true of all that have an owner
 pub each_owned : {others : List Root} {s : State} {bytes : List ℕ} (p : Pictures others s bytes) (P : Root → Type 0) → ((name : List ℕ) (a : Root) → root_named p.picture.names name ≡ Some a → P a)
-    → ((T : ℕ) (a : Root) → root_of_type p.picture.uniques T ≡ Some a → P a) → ((a : Root) → IsAmong a others → P a) → ((n : ℕ) (a : Root) → root_of_register s.registers p.owned n ≡ Some a → P a) → (a : Root) → IsAmong a
-        (owners_in p.picture) → P a
+    → ((T : ℕ) (a : Root) → root_of_type p.picture.uniques T ≡ Some a → P a) → ((a : Root) → IsAmong a others → P a) → ((n : ℕ) (a : Root) → root_of_register s.registers p.owned n ≡ Some a → P a) → (a : Root)
+    → IsAmong a (owners_in p.picture) → P a
 each_owned {others = others} {s = s} p P named unique other owned a i =
     let r = p.picture in
     elim (among_either a r.names (r.uniques ++ r.loose) i) [
@@ -212,10 +212,11 @@ module _ (constants : List Constant) (others : List Root) (moves : List Move) (i
 
 module _ (constants : List Constant) (others : List Root) (moves : List Move) (i : Instruction) (x z y w : Situation) (stand : StandAlike others x z) (r : RowOn constants others moves i x success y)
     (q : RowOn constants others moves i z success w)
-  (place : Place) (form : Form) (sx : MovedSide constants others i x.owned x.image y.image r.after.pictured place form r.before.plain) (sz : MovedSide constants others i x.owned z.image w.image q.after.pictured place form r.before.plain)
+    (place : Place) (form : Form) (sx : MovedSide constants others i x.owned x.image y.image r.after.pictured place form r.before.plain)
+    (sz : MovedSide constants others i x.owned z.image w.image q.after.pictured place form r.before.plain)
     (gone : sz.gone ≡ sx.gone) (found : RefersTo r.before.plain i.b)
     (inner : (a b : Value) (xs ys : List ℕ) → Holds y.image sx.move.before.picture.table place a xs → AllByRecursion (Fits y.image) xs → Holds w.image sx.move.before.picture.table place b ys → AllByRecursion (Fits w.image) ys
-        → AlikeAt y.image w.image sx.move.before.picture.table place) where
+    → AlikeAt y.image w.image sx.move.before.picture.table place) where
   pub one_before : SamePicture sx.move.before.picture sz.move.before.picture
   one_before = (both stand.images sx.move.before sz.move.before sx.move.at sz.move.at).same
 
@@ -247,17 +248,27 @@ module _ (constants : List Constant) (others : List Root) (moves : List Move) (i
       match_stayed c a b (owned_in sx.move.before c (of_register r.before.plain.registers sx.move.before.owned n c e), k.0) k.1 (sz.owned_stays n c b (owner_same n ∙ e) g).1
 
   -- if the objects of registers match, and frozen objects do
-  pub sides_alike : ((n : ℕ) (a b : Root) → root_of_register r.after.plain.registers r.after.pictured.owned n ≡ Some a → root_of_register q.after.plain.registers q.after.pictured.owned n ≡ Some b
+  pub sides_with : ((n : ℕ) (a b : Root) → root_of_register r.after.plain.registers r.after.pictured.owned n ≡ Some a → root_of_register q.after.plain.registers q.after.pictured.owned n ≡ Some b
       → Matched r.after.pictured q.after.pictured a b)
-      → ((f : Frozen) → IsOneOf f r.after.pictured.picture.frozen → StandsAt f.at sx.move.before.picture.frozen) → StaysAlike others success success y w
-  sides_alike owned were = moves_alike constants others moves i x z y w stand r q sx.move sz.move (Stay sx.move.before.picture sx.gone) (record {
+      → ((f g : Frozen) → IsOneOf f r.after.pictured.picture.frozen → IsOneOf g q.after.pictured.picture.frozen → g.at ≡ f.at → SameContent f g)
+      → ((f : Frozen) → IsOneOf f r.after.pictured.picture.frozen → IsOneOf f q.after.pictured.picture.frozen → AlikeRoot y.image w.image sx.move.before.picture.table (root_of_frozen f)) → StaysAlike others success success y w
+  sides_with owned content opens = moves_alike constants others moves i x z y w stand r q sx.move sz.move (Stay sx.move.before.picture sx.gone) (record {
     match = match_stayed;
     name_stays = λ c j. (in_names sx.move.before c j, sx.name_stays c j);
     unique_stays = λ c j. (in_uniques sx.move.before c j, sx.unique_stays c j);
     other_stays = λ c j. (others_in sx.move.before c j, sx.other_stays c j);
     owned = owned;
-    content = λ f g j k e. content_both stand.images sx.move.before sz.move.before sx.move.at sz.move.at r.after.pictured q.after.pictured sx.move.frozen sz.move.frozen f g (were f j) j k e;
-    opens = λ f j k. subst (λ (t : Table). AlikeRoot y.image w.image t (root_of_frozen f)) (sym sx.move.tables)
-        (opens_both stand.images sx.move.before sz.move.before sx.move.at sz.move.at r.after.pictured q.after.pictured sx.move.frozen sz.move.frozen f (were f j) j k);
+    content = content;
+    opens = λ f j k. subst (λ (t : Table). AlikeRoot y.image w.image t (root_of_frozen f)) (sym sx.move.tables) (opens f j k);
     entries = entries_both stand.images sx.move.before sz.move.before sx.move.at sz.move.at r.after.pictured q.after.pictured sx.move.kinds sx.index_back sx.index_whole sz.index_whole;
   })
+
+  -- if all frozen objects were there
+  pub sides_alike : ((n : ℕ) (a b : Root) → root_of_register r.after.plain.registers r.after.pictured.owned n ≡ Some a → root_of_register q.after.plain.registers q.after.pictured.owned n ≡ Some b
+      → Matched r.after.pictured q.after.pictured a b)
+      → ((f : Frozen) → IsOneOf f r.after.pictured.picture.frozen → StandsAt f.at sx.move.before.picture.frozen) → StaysAlike others success success y w
+  sides_alike owned were =
+      let p = sx.move.before in
+      let p' = sz.move.before in
+      sides_with owned (λ f g j k e. content_both stand.images p p' sx.move.at sz.move.at r.after.pictured q.after.pictured sx.move.frozen sz.move.frozen f g (were f j) j k e)
+      (λ f j k. opens_both stand.images p p' sx.move.at sz.move.at r.after.pictured q.after.pictured sx.move.frozen sz.move.frozen f (were f j) j k)

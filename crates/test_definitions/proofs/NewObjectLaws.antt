@@ -62,7 +62,7 @@ granted_lives old new n at asks gives blocks asks_are gives_are granted_is left 
     omega (arith, ap (λ cs. times h (positions cs)) now, counted, times-append h (block_of at ∷ []) (positions bs))
 
 -- a request without an old block replaces none
-none_replaced : (allocator end n : ℕ) (bs : List Span) → spending.replaced allocator bs end (block_for n ∷ []) ≡ []
+pub none_replaced : (allocator end n : ℕ) (bs : List Span) → spending.replaced allocator bs end (block_for n ∷ []) ≡ []
 none_replaced allocator end n bs = go (after_ask allocator bs end (block_for n))
   where
     go : (o : Option Granted) → option_map_or (λ g. old_of g (block_for n) ++ spending.replaced allocator (blocks_then g) end []) o [] ≡ []

@@ -1,22 +1,17 @@
 -- An own cell that points to an object, or to nothing: how it opens, and its value.
-use Rattle.std.proofs.Common.{◌≡◌, ℕ, ◌+◌, List, [], ◌∷◌, ◌++◌, length, Option, Some, None, option_map, option_to_list, unwrap_or, refl, sym, ap, ◌∙◌, subst, arith}
-use Rattle.std.specs.List.{AllByRecursion}
+use Rattle.std.proofs.Common.{◌≡◌, ℕ, List, [], ◌∷◌, ◌++◌, length, Option, Some, None, option_map, option_to_list, unwrap_or, refl, sym, ap, ◌∙◌, subst, arith}
 use Rattle.seg_spec.specs.Pointer.{target}
 use Rattle.seg_spec.specs.Types.{Form, Table, form_at}
 use Rattle.seg_spec.specs.Value.{Label, Value, Values, node, nil, cons, count, Empty}
 use Rattle.seg_spec.specs.Block.{block_of}
 use Rattle.seg_spec.specs.Reads.{Place, Opened, Opens, Holds, holds, HoldsEach, holds_none, holds_more, count_at, items}
-use Rattle.seg_spec.specs.Parts.{Persists}
 use Rattle.seg_spec.specs.Shared.{names_in, names_each, replaced, replaced_each}
-use Rattle.seg_spec.proofs.Values.PathSplitLaws.{OpenedAs, opened_as, count_is}
-use Rattle.seg_spec.proofs.Values.PersistenceLaws.{Holds-persists}
-use Rattle.seg_spec.proofs.Values.PlaceFrameLaws.{each_right, each_left}
+use Rattle.seg_spec.proofs.Values.PathSplitLaws.{count_is}
 use Rattle.client_spec.proofs.Unfolded.UnfoldedValueLaws.{count_replaced}
 use Rattle.client_spec.specs.Ties.{object_at}
 use Rattle.std.proofs.lemmas.List.{append-nil}
 use Rattle.test_definitions.specs.Alike.{AlikeAt, opens_alike, AlikeEach, none_alike, more_alike}
 use Rattle.test_definitions.proofs.AlikePlaceLaws.{open_alike}
-use Rattle.test_definitions.proofs.PersistAlikeLaws.{Fits, persist_alike}
 
 -- how an own cell opens that points to the object
 abbrev pub owning : ℕ → ℕ → Opened
@@ -42,7 +37,7 @@ module _ (bytes : List ℕ) (table : Table) (place : Place) (T : ℕ) (opened : 
       let n = counts_none e in
       o.opened_is ∙ (λ j. record { label = Label.opt; blocks = option_to_list (option_map block_of (e j)); parts = items table (unwrap_or (e j) 0) T (n j) }))
 
-one_form : (table : Table) (place : Place) (f g : Form) → form_at table place.type ≡ Some f → form_at table place.type ≡ Some g → f ≡ g
+pub one_form : (table : Table) (place : Place) (f g : Form) → form_at table place.type ≡ Some f → form_at table place.type ≡ Some g → f ≡ g
 one_form table place f g e h = (let both : Some f ≡ Some g = sym e ∙ h in cc)
 
 pub empty_names : names_in Empty ≡ []
@@ -67,15 +62,15 @@ module _ (bytes : List ℕ) (table : Table) where
   one_held : {ps : List Place} {q : Place} {vs : Values} {owned : List ℕ} → ps ≡ q ∷ [] → HoldsEach bytes table ps vs owned → (u : Value) × (xs : List ℕ) × Holds bytes table q u xs × (vs ≡ cons u nil) × (owned ≡ xs)
   one_held e holds_none = cc
   one_held {q = q} e (holds_more {place = p} {places = ps} {v = u} {blocks = xs} h hs) = (
-    let first : p ≡ q = cc in
-    let rest : ps ≡ [] = cc in
-    let none = no_more rest hs in (
-      u,
-      xs,
-      subst (λ (z : Place). Holds bytes table z u xs) first h,
-      ap (cons u) none.0,
-      ap (λ ys. xs ++ ys) none.1 ∙ append-nil xs,
-    ))
+      let first : p ≡ q = cc in
+      let rest : ps ≡ [] = cc in
+      let none = no_more rest hs in (
+        u,
+        xs,
+        subst (λ (z : Place). Holds bytes table z u xs) first h,
+        ap (cons u) none.0,
+        ap (λ ys. xs ++ ys) none.1 ∙ append-nil xs,
+      ))
     where
       no_more : {ps : List Place} {vs : Values} {owned : List ℕ} → ps ≡ [] → HoldsEach bytes table ps vs owned → (vs ≡ nil) × (owned ≡ [])
       no_more e holds_none = (refl, refl)

@@ -1,6 +1,6 @@
 -- Two situations that clients can't tell apart stay so after TAKE.
 use Rattle.std.specs.Prelude.{ℤ, pos}
-use Rattle.std.proofs.Common.{◌≡◌, ℕ, ◌+◌, ◌≤◌, ◌⊎◌, inl, inr, Bool, true, false, List, [], ◌∷◌, ◌++◌, length, Option, Some, None, option_map, refl, sym, ap, ◌∙◌, subst, arith}
+use Rattle.std.proofs.Common.{◌≡◌, ℕ, ◌≤◌, ◌⊎◌, inl, inr, Bool, List, [], ◌∷◌, ◌++◌, length, Option, Some, None, option_map, refl, sym, ap, ◌∙◌, subst}
 use Rattle.std.specs.List.{AllByRecursion}
 use Rattle.seg_spec.specs.Bytes.{word}
 use Rattle.seg_spec.specs.Header.{allocator_word, next_word}
@@ -11,7 +11,6 @@ use Rattle.seg_spec.specs.Heap.{live}
 use Rattle.seg_spec.specs.Block.{KeepsBlock}
 use Rattle.seg_spec.specs.Reads.{Place, Holds, HoldsEach, holds_none, holds_more, items}
 use Rattle.seg_spec.specs.Parts.{Persists, persist_none, persist_more}
-use Rattle.seg_spec.specs.Apart.{KeepsBlockAround}
 use Rattle.seg_spec.specs.Index.{Root, root_named, root_of_type}
 use Rattle.seg_spec.specs.Frozen.{Frozen}
 use Rattle.seg_spec.specs.Sound.{IsPlain, times, positions}
@@ -27,7 +26,6 @@ use Rattle.client_spec.specs.Syntax.{Constant, Instruction}
 use Rattle.client_spec.specs.Machine.{◌>>=◌, Origin, Path, Register, State, register, set_register, owned_by, at_origin, path_value, put_origin, put_at}
 use Rattle.client_spec.specs.Answer.{Answer, Outcome, success, null_or_none, answer_number, path_of, path_form, owned_type, content_in}
 use Rattle.client_spec.specs.Effect.{effect, take_content}
-use Rattle.client_spec.specs.Trees.{unfolded_register}
 use Rattle.client_spec.specs.Pictures.{root_of_register, Pictures, LeadsInImage, root_at, meaning_in}
 use Rattle.client_spec.specs.Asks.{AsksBy, ReturnsBy, ChangesOnSuccess, GrantsAsks}
 use Rattle.client_spec.specs.Ties.{Spot, spot_of, KeepsBut, places_of, object_at, OfPlace, TouchesBy, TakesContent, ComesBy, Changes, keeps_image}
@@ -44,7 +42,7 @@ use Rattle.test_definitions.proofs.AlikeRootLaws.{both, begun, of_register, of_t
 use Rattle.test_definitions.proofs.AnsweredRowLaws.{from_answer, free_answer}
 use Rattle.test_definitions.proofs.ApartPlaceLaws.{KeepsApart, index_whole, now_there}
 use Rattle.test_definitions.proofs.ApartRowLaws.{nodes_before, frozen_were, faced_values, plain_face, cells_below}
-use Rattle.test_definitions.proofs.ChangedPlaceLaws.{KeepsOwners, own_owner, value_below}
+use Rattle.test_definitions.proofs.ChangedPlaceLaws.{own_owner, value_below}
 use Rattle.test_definitions.proofs.ChangedPlaceRowLaws.{CellsWithin, cells_of}
 use Rattle.test_definitions.proofs.DropStepLaws.{owner_of}
 use Rattle.test_definitions.proofs.FrozenApartLaws.{owner_in_roots}
@@ -104,9 +102,12 @@ owner_before s p old new e n v T is =
     let whole = with_value_at p.selectors new a.0.0 in
     let here : at_origin (put_origin s p.origin whole) (Origin.Owned n) ≡ Some (v, T) = ap (λ (z : State). at_origin z (Origin.Owned n)) (sym (put_at_is s p a.0.0 new a.0.1 a.1)) ∙ is in
     elim (origin_put s p.origin a.0.0 whole a.0.1 a.1 (Origin.Owned n)) [
-      | inl k ↦ (a.0.0, (
-          let both : ◌≡◌ {A = Value × ℕ} (whole, a.0.1) (v, T) = Some_inj (sym k.1 ∙ here) in
-          ap (at_origin s) (sym k.0) ∙ a.1 ∙ ap (λ (z : Value × ℕ). Some (a.0.0, z.1)) both))
+      | inl k ↦ (
+        a.0.0,
+        (
+            let both : ◌≡◌ {A = Value × ℕ} (whole, a.0.1) (v, T) = Some_inj (sym k.1 ∙ here) in
+            ap (at_origin s) (sym k.0) ∙ a.1 ∙ ap (λ (z : Value × ℕ). Some (a.0.0, z.1)) both),
+      )
       | inr k ↦ (v, sym k ∙ here)
     ]
 
