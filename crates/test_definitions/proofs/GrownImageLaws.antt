@@ -102,6 +102,7 @@ nothing_there (x ∷ xs) f = absurd (omega (arith, f x, times-same x xs))
 pub record Grows (old new : List ℕ) (was now : Picture) (index : List ℕ) (News : Root → Type 0) : Type 0 where
   pub tables : now.table ≡ was.table
   pub kept : (h : ℕ) → 1 ≤ times h (positions (live old)) → times h index ≡ 0 → KeepsBlock old new h
+  -- the blocks of the index afterwards, in some order
   pub entries : List ℕ
   pub long : length entries ≡ index_long (word new index_kind_word) (length now.names)
   pub lives : (a : Root) → News a → (h : ℕ) → times h (positions (live new)) + times h index ≡ times h (positions (live old)) + times h (block_of (payload_of a) ∷ []) + times h entries

@@ -84,7 +84,7 @@ module _ (allocator : ℕ) (bs : List Span) (end : ℕ) (blocks new : List Span)
 
 -- ---- both requests
 
--- The blocks of the index after one more entry was added. The nodes that a tree had are among them.
+-- The blocks of the index after one more entry was added, in some order. A tree's old nodes are among them.
 pub record MakesRoom (old new : List ℕ) (p : Picture) (index : List ℕ) (at : ℕ) : Type 0 where
   pub entries : List ℕ
   pub long : length entries ≡ index_long (word old index_kind_word) (suc (length p.names))
