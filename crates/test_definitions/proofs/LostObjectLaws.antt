@@ -132,8 +132,8 @@ module _ {others : List Root} {s t : State} {old new : List ℕ} (p : Pictures o
     uniques_stay rs among rising as_many faces = types_listed 0 0 p'.picture.uniques rs p'.held.laid_out.uniques.rising rising
         (λ T. one_found (root_of_type p'.picture.uniques T) (root_of_type rs T) (as_many T)
         (λ e c f g. (
-            let unique = among_left e p'.picture.uniques p'.picture.loose (of_type p'.picture.uniques T e f) in
-            faced_one c e (among c (of_type rs T c g)) (among_right e p'.picture.names (p'.picture.uniques ++ p'.picture.loose) unique) (faces T c e g f))))
+        let unique = among_left e p'.picture.uniques p'.picture.loose (of_type p'.picture.uniques T e f) in
+        faced_one c e (among c (of_type rs T c g)) (among_right e p'.picture.names (p'.picture.uniques ++ p'.picture.loose) unique) (faces T c e g f))))
 
     owned_loose : (e : Root) → IsAmong e p'.owned → IsAmong e p'.picture.loose
     owned_loose e j = subst (IsAmong e) (sym p'.loose) (among_right e others p'.owned j)
