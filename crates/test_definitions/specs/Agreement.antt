@@ -10,15 +10,12 @@
 --     AllAgree lefts others        the results of several clients agree
 --     StopsEarlier lefts others    the output failed in `lefts`, and more was written in `others`
 --     OneOutcome lefts others      the results agree, or the output of one failed earlier
-use Rattle.std.specs.Prelude.{◌≡◌, ◌⊎◌, ⊤, ℕ, ◌<◌, Bool, List, [], ◌∷◌, ◌++◌, length}
+use Rattle.std.specs.Prelude.{◌≡◌, ◌⊎◌, ⊤, ℕ, ◌<◌, List, [], ◌∷◌, ◌++◌, length}
 use Rattle.seg_spec.specs.Index.{Root}
-use Rattle.client_spec.specs.Syntax.{Constant, Instruction, Client}
-use Rattle.client_spec.specs.Answer.{Answer}
 use Rattle.client_spec.specs.Run.{Ending, stopped}
-use Rattle.client_spec.specs.OnImages.{Move, Situation, RowOn, Left}
+use Rattle.client_spec.specs.OnImages.{Situation, Left}
 use Rattle.client_spec.specs.Clients.{outputs, ending_after}
-use Rattle.client_spec.proofs.Runs.KeptByRunLaws.{Each}
-use Rattle.test_definitions.specs.Alike.{AreAlike, StandAlike, StaysAlike, is_settled}
+use Rattle.test_definitions.specs.Alike.{AreAlike, StandAlike}
 
 -- ---- two runs
 

@@ -11,8 +11,7 @@
 --     StandAlike others x z                two situations with one state and one list of owned
 --                                          objects, whose images are alike
 --     StaysAlike others first second y w   one answer from both, and the situations are still alike
-use Rattle.std.specs.Prelude.{◌≡◌, ℕ, Bool, true, false, not, List, [], ◌∷◌, ◌++◌, length, Some, None}
-use Rattle.std.specs.Prelude.{nat_abs}
+use Rattle.std.specs.Prelude.{◌≡◌, ℕ, Bool, true, false, List, [], ◌∷◌, ◌++◌, length, Some}
 use Rattle.std.specs.List.{AllByRecursion}
 use Rattle.seg_spec.specs.Bytes.{word}
 use Rattle.seg_spec.specs.Header.{next_word, KeepsFront}
@@ -20,17 +19,11 @@ use Rattle.seg_spec.specs.Types.{Form, Table, form_at}
 use Rattle.seg_spec.specs.Value.{count}
 use Rattle.seg_spec.specs.Heap.{live}
 use Rattle.seg_spec.specs.Reads.{Place, Opened, Opens, count_at, items}
-use Rattle.seg_spec.specs.Index.{Root, root_named, root_of_type}
+use Rattle.seg_spec.specs.Index.{Root}
 use Rattle.seg_spec.specs.Sound.{Picture, IsHeld, roots_of}
 use Rattle.seg_spec.specs.Counting.{AreCounted}
-use Rattle.seg_spec.specs.Spending.{killed}
-use Rattle.client_spec.specs.declared.table.Operation.{Operation}
-use Rattle.client_spec.specs.Syntax.{Constant, Instruction}
-use Rattle.client_spec.specs.Machine.{◌>>=◌, State}
-use Rattle.client_spec.specs.Answer.{Answer, type_operand}
-use Rattle.client_spec.specs.Pictures.{Pictures}
-use Rattle.client_spec.specs.Asks.{name_operand, found_key}
-use Rattle.client_spec.specs.Ties.{places_of, writes_image}
+use Rattle.client_spec.specs.Answer.{Answer}
+use Rattle.client_spec.specs.Ties.{places_of}
 use Rattle.client_spec.specs.OnImages.{Situation}
 
 abbrev pub has_count : Form → Bool

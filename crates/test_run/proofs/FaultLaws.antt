@@ -7,7 +7,7 @@ use Rattle.seg_spec.specs.Faulty.{Failure}
 use Rattle.seg_spec.specs.Fixtures.{counter, counter_picture}
 use Rattle.test_definitions.proofs.OnePicture.{Held-one}
 use Rattle.seg_spec.proofs.Images.UnsoundImageLaws.{unsound}
-use Rattle.test_definitions.proofs.SoundImages.{counter_held, counter_counted, counter_sound}
+use Rattle.test_definitions.proofs.WorkedImages.SoundImages.{counter_held, counter_counted, counter_sound}
 use Rattle.seg_raw.specs.declared.fault.Fault.{Fault}
 use Rattle.seg_raw.specs.declared.fault.Fault.TheVariants as fault
 use Rattle.seg_check.specs.Faults.{IsImageOf, IsFaultOf, IsFaultOfOpening}

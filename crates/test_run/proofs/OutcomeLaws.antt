@@ -7,9 +7,9 @@ use Rattle.seg_spec.proofs.Images.UpgradeLaws.{upgrade_changes, upgraded_sound}
 use Rattle.seg_spec.specs.Fixtures.{counter, greeting, empty, lost_gap, counter_picture, greeting_picture}
 use Rattle.seg_spec.specs.Bytes.{put, set_number}
 use Rattle.test_definitions.proofs.OnePicture.{Held-one}
-use Rattle.test_definitions.proofs.Parts.{lost_gap-lacks}
-use Rattle.test_definitions.proofs.SoundImages.{counter_held, counter_sound, greeting_held, greeting_counted}
-use Rattle.test_definitions.proofs.UnsoundImages.{lost_gap-unsound}
+use Rattle.test_definitions.proofs.WorkedImages.Parts.{lost_gap-lacks}
+use Rattle.test_definitions.proofs.WorkedImages.SoundImages.{counter_held, counter_sound, greeting_held, greeting_counted}
+use Rattle.test_definitions.proofs.WorkedImages.UnsoundImages.{lost_gap-unsound}
 use Rattle.seg_raw.specs.declared.fault.Fault.{Fault}
 use Rattle.seg_raw.specs.declared.fault.Fault.TheVariants as fault
 use Rattle.client_spec.specs.Syntax.{Client}
@@ -21,8 +21,8 @@ use Rattle.client_spec.specs.Outcome.{CanLie, CanMove, CanRun, Refusal, IsTurnOf
 use Rattle.client_spec.specs.Fixtures.{increment, move_to}
 use Rattle.client_verify.specs.Refusals.{IsRefused}
 use Rattle.client_spec.proofs.Spelling.OneClientLaws.{one_client}
-use Rattle.test_definitions.proofs.IncrementLaws.{increment_spelled}
-use Rattle.test_definitions.proofs.Whole as whole
+use Rattle.test_definitions.proofs.WorkedRuns.IncrementLaws.{increment_spelled}
+use Rattle.test_definitions.proofs.WorkedImages.Whole as whole
 use Rattle.client_vm.specs.declared.report.Report.{Report}
 use Rattle.client_verify.specs.declared.refused.Refused.{Refused}
 use Rattle.client_vm.specs.declared.report.Ended.TheVariants as ended

@@ -30,7 +30,7 @@ use Rattle.seg_spec.proofs.Frozen.PictureCountLaws.{owned_by}
 use Rattle.seg_spec.proofs.Frozen.ReleaseLaws.{frozen_there}
 use Rattle.seg_spec.proofs.Frozen.NoFrozenLaws.{none_numbered}
 use Rattle.seg_spec.proofs.Images.VersionLaws.{unnumbered}
-use Rattle.test_definitions.proofs.NoRoots.{nothing_held}
+use Rattle.test_definitions.proofs.WorkedImages.NoRoots.{nothing_held}
 use Rattle.client_spec.specs.declared.table.Operation.{Operation}
 use Rattle.client_spec.specs.Syntax.{Constant, Instruction}
 use Rattle.client_spec.specs.Machine.{State}

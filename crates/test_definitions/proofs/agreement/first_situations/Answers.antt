@@ -1,4 +1,4 @@
-use Rattle.test_definitions.proofs.AlikeFirstLaws.{first_alike}
+use Rattle.test_definitions.proofs.Runs.AlikeFirstLaws.{first_alike}
 use Rattle.test_definitions.proofs.agreement.first_situations.Goals as goal
 
 pub returns : goal.returns

@@ -1,4 +1,4 @@
-use Rattle.test_definitions.proofs.AlikeEndLaws.{ends_alike_too}
+use Rattle.test_definitions.proofs.Runs.AlikeEndLaws.{ends_alike_too}
 use Rattle.test_definitions.proofs.agreement.last_situations.Goals as goal
 
 pub returns : goal.returns

@@ -1,4 +1,4 @@
-use Rattle.test_definitions.proofs.OneIncrementLaws.{increments, cut_increments, not_43}
+use Rattle.test_definitions.proofs.WorkedRuns.OneIncrementLaws.{increments, cut_increments, not_43}
 use Rattle.test_definitions.proofs.agreement.one_increment.Goals as goal
 
 pub returns : goal.returns

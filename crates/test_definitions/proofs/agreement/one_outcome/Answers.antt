@@ -1,4 +1,4 @@
-use Rattle.test_definitions.proofs.OneOutcomeLaws.{outcomes_alike, same_length, none_failed}
+use Rattle.test_definitions.proofs.Runs.OneOutcomeLaws.{outcomes_alike, same_length, none_failed}
 use Rattle.test_definitions.proofs.agreement.one_outcome.Goals as goal
 
 pub returns : goal.returns

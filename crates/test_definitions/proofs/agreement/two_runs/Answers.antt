@@ -1,4 +1,4 @@
-use Rattle.test_definitions.proofs.AlikeRunLaws.{runs_alike}
+use Rattle.test_definitions.proofs.Runs.AlikeRunLaws.{runs_alike}
 use Rattle.test_definitions.proofs.agreement.two_runs.Goals as goal
 
 pub returns : goal.returns

@@ -1,7 +1,7 @@
 use Rattle.std.proofs.Common.{refl}
 use Rattle.std.specs.Fmt.{digits}
 use Rattle.client_spec.specs.Grammar.{listing}
-use Rattle.test_definitions.proofs.IncrementLaws.{increment_spelled}
+use Rattle.test_definitions.proofs.WorkedRuns.IncrementLaws.{increment_spelled}
 use Rattle.test_definitions.proofs.clients.the_increment.Goals as goal
 
 pub returns-clause-text : goal.returns-clause-text

@@ -1,4 +1,4 @@
-use Rattle.test_definitions.proofs.CutBuffers.{cut-changes, cut-not_whole, cut-shrinks, cut-root_paths, unnamed-lost, unnamed-lost_inside, unnamed-beside, unnamed-not_beside}
+use Rattle.test_definitions.proofs.WorkedImages.CutBuffers.{cut-changes, cut-not_whole, cut-shrinks, cut-root_paths, unnamed-lost, unnamed-lost_inside, unnamed-beside, unnamed-not_beside}
 use Rattle.test_definitions.proofs.examples.cutting_a_buffer.Goals as goal
 
 pub returns : goal.returns

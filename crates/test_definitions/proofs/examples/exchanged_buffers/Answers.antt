@@ -1,4 +1,4 @@
-use Rattle.test_definitions.proofs.MovedBuffers.{first-holds, second-holds, parts-exchanged}
+use Rattle.test_definitions.proofs.WorkedImages.MovedBuffers.{first-holds, second-holds, parts-exchanged}
 use Rattle.test_definitions.proofs.examples.exchanged_buffers.Goals as goal
 
 pub returns : goal.returns

@@ -1,9 +1,9 @@
 use Rattle.std.proofs.Common.{lit≤, refl, arith}
-use Rattle.test_definitions.proofs.Parts.{lost_gap-tiles, neighbours-tiles, linked-tiles, odd_kind-tiles, counter-all, no_owner-all, other_magic-lacks, odd_type-lacks}
-use Rattle.test_definitions.proofs.Parts.{linked-lacks, linked-right_type, lost_gap-lacks, lost_gap-tiles_right, lost_gap-content_right, two_owners-lacks, no_owner-lacks}
+use Rattle.test_definitions.proofs.WorkedImages.Parts.{lost_gap-tiles, neighbours-tiles, linked-tiles, odd_kind-tiles, counter-all, no_owner-all, other_magic-lacks, odd_type-lacks}
+use Rattle.test_definitions.proofs.WorkedImages.Parts.{linked-lacks, linked-right_type, lost_gap-lacks, lost_gap-tiles_right, lost_gap-content_right, two_owners-lacks, no_owner-lacks}
 use Rattle.seg_spec.proofs.Images.UnsoundImageLaws.{unsound}
 use Rattle.seg_spec.specs.Fixtures.{counter}
-use Rattle.test_definitions.proofs.SoundImages.{counter_sound}
+use Rattle.test_definitions.proofs.WorkedImages.SoundImages.{counter_sound}
 use Rattle.test_definitions.proofs.examples.parts_of_images.Goals as goal
 
 pub returns : goal.returns

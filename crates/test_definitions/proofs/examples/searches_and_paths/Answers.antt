@@ -1,7 +1,7 @@
 use Rattle.std.proofs.Common.{[], refl}
 use Rattle.seg_spec.specs.Value.{Selector}
 use Rattle.seg_spec.specs.Fixtures.{empty, counter_picture, empty_picture}
-use Rattle.test_definitions.proofs.SoundImages.{counter_held, empty_held}
+use Rattle.test_definitions.proofs.WorkedImages.SoundImages.{counter_held, empty_held}
 use Rattle.client_sim.proofs.Names.OnePictureLaws.{Held-one}
 use Rattle.test_definitions.proofs.examples.searches_and_paths.Goals as goal
 

@@ -1,5 +1,5 @@
-use Rattle.test_definitions.proofs.SoundImages.{counter_held, greeting_held, empty_held, empty_tree_held, counter_sound, greeting_sound, empty_sound, empty_tree_sound}
-use Rattle.test_definitions.proofs.EveryImage.{every_held}
+use Rattle.test_definitions.proofs.WorkedImages.SoundImages.{counter_held, greeting_held, empty_held, empty_tree_held, counter_sound, greeting_sound, empty_sound, empty_tree_sound}
+use Rattle.test_definitions.proofs.WorkedImages.EveryImage.{every_held}
 use Rattle.test_definitions.proofs.examples.sound_images.Goals as goal
 
 pub returns : goal.returns

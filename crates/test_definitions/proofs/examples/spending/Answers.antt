@@ -1,4 +1,4 @@
-use Rattle.test_definitions.proofs.Denials.{second_is_denied, growth_is_granted}
+use Rattle.test_definitions.proofs.WorkedImages.Denials.{second_is_denied, growth_is_granted}
 use Rattle.test_definitions.proofs.examples.spending.Goals as goal
 
 pub returns-clause-denied : goal.returns-clause-denied

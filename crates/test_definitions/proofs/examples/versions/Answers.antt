@@ -1,4 +1,4 @@
-use Rattle.test_definitions.proofs.SharedImages.{sharing_held, sharing_counted, sharing_sound, opened_sound, opened_bytes}
+use Rattle.test_definitions.proofs.WorkedImages.SharedImages.{sharing_held, sharing_counted, sharing_sound, opened_sound, opened_bytes}
 use Rattle.test_definitions.proofs.examples.versions.Goals as goal
 
 pub returns : goal.returns

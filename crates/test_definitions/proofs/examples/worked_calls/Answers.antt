@@ -1,4 +1,4 @@
-use Rattle.test_definitions.proofs.WorkedCalls.{takes, expands, gives}
+use Rattle.test_definitions.proofs.WorkedRuns.WorkedCalls.{takes, expands, gives}
 use Rattle.test_definitions.proofs.examples.worked_calls.Goals as goal
 
 pub returns : goal.returns

@@ -1,4 +1,4 @@
-use Rattle.test_definitions.proofs.NoRoots.{nothing_held}
+use Rattle.test_definitions.proofs.WorkedImages.NoRoots.{nothing_held}
 use Rattle.test_definitions.proofs.images.no_roots.Goals as goal
 
 pub returns : goal.returns

@@ -1,5 +1,5 @@
 use Rattle.seg_spec.proofs.Images.UnsoundImageLaws.{tiles_held}
-use Rattle.test_definitions.proofs.Parts.{image_length, heap_of_tiles, all_held, sound_of_all}
+use Rattle.test_definitions.proofs.WorkedImages.Parts.{image_length, heap_of_tiles, all_held, sound_of_all}
 use Rattle.test_definitions.proofs.images.parts_of_an_image.Goals as goal
 
 pub returns : goal.returns

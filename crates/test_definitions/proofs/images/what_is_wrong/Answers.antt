@@ -1,5 +1,5 @@
 use Rattle.seg_spec.proofs.Images.UnsoundImageLaws.{unsound}
-use Rattle.test_definitions.proofs.Parts.{one_failure, owner_is_content}
+use Rattle.test_definitions.proofs.WorkedImages.Parts.{one_failure, owner_is_content}
 use Rattle.test_definitions.proofs.images.what_is_wrong.Goals as goal
 
 pub returns : goal.returns

@@ -1,5 +1,5 @@
 use Rattle.std.proofs.Common.{refl}
-use Rattle.test_definitions.proofs.CounterRun.{left, outcome_is}
+use Rattle.test_definitions.proofs.WorkedRuns.CounterRun.{left, outcome_is}
 use Rattle.test_definitions.proofs.pictures.an_outcome.Goals as goal
 
 pub returns : goal.returns

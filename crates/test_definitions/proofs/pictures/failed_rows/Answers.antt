@@ -1,4 +1,4 @@
-use Rattle.test_definitions.proofs.KeptImageLaws.{failed_keeps}
+use Rattle.test_definitions.proofs.Rows.KeptImageLaws.{failed_keeps}
 use Rattle.test_definitions.proofs.pictures.failed_rows.Goals as goal
 
 pub returns : goal.returns

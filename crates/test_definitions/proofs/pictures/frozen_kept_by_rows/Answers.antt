@@ -1,4 +1,4 @@
-use Rattle.test_definitions.proofs.FrozenRowLaws.{object_stays, bytes_stay, no_other_value, no_other_bytes}
+use Rattle.test_definitions.proofs.Rows.FrozenRowLaws.{object_stays, bytes_stay, no_other_value, no_other_bytes}
 use Rattle.test_definitions.proofs.pictures.frozen_kept_by_rows.Goals as goal
 
 pub returns : goal.returns

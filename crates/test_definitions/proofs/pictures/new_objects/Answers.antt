@@ -1,6 +1,6 @@
 use Rattle.std.proofs.Common.{inl, refl}
-use Rattle.test_definitions.proofs.NewBlockLaws.{name_in_block, owner_in_block}
-use Rattle.test_definitions.proofs.OneRow.{itself}
+use Rattle.test_definitions.proofs.Rows.NewBlockLaws.{name_in_block, owner_in_block}
+use Rattle.test_definitions.proofs.Rows.OneRow.{itself}
 use Rattle.test_definitions.proofs.pictures.new_objects.Goals as goal
 
 pub returns-clause-named : goal.returns-clause-named

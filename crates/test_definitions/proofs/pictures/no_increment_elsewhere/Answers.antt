@@ -1,5 +1,5 @@
-use Rattle.test_definitions.proofs.ExchangedImage.{exchanged_sound}
-use Rattle.test_definitions.proofs.IncrementOutcomeLaws.{no_number, blocks_stay, not_exchanged}
+use Rattle.test_definitions.proofs.WorkedImages.ExchangedImage.{exchanged_sound}
+use Rattle.test_definitions.proofs.WorkedRuns.IncrementOutcomeLaws.{no_number, blocks_stay, not_exchanged}
 use Rattle.test_definitions.proofs.pictures.no_increment_elsewhere.Goals as goal
 
 pub returns : goal.returns

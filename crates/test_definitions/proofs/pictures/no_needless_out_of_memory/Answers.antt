@@ -1,4 +1,4 @@
-use Rattle.test_definitions.proofs.EnoughRoomLaws.{add_can_run, make_can_run, add_silent, make_silent}
+use Rattle.test_definitions.proofs.WorkedRuns.EnoughRoomLaws.{add_can_run, make_can_run, add_silent, make_silent}
 use Rattle.test_definitions.proofs.pictures.no_needless_out_of_memory.Goals as goal
 
 pub returns : goal.returns

@@ -1,4 +1,4 @@
-use Rattle.test_definitions.proofs.KeptImageLaws.{nodes_kept, no_other_node}
+use Rattle.test_definitions.proofs.Rows.KeptImageLaws.{nodes_kept, no_other_node}
 use Rattle.test_definitions.proofs.pictures.nodes_kept_by_rows.Goals as goal
 
 pub returns : goal.returns

@@ -1,4 +1,4 @@
-use Rattle.test_definitions.proofs.MovedObjectLaws.{put_keeps, take_keeps, freeze_keeps, put_refused}
+use Rattle.test_definitions.proofs.Rows.MovedObjectLaws.{put_keeps, take_keeps, freeze_keeps, put_refused}
 use Rattle.test_definitions.proofs.pictures.objects_moved_by_rows.Goals as goal
 
 pub returns : goal.returns

@@ -1,4 +1,4 @@
-use Rattle.test_definitions.proofs.OneSharedLaws.{shares, shares_one}
+use Rattle.test_definitions.proofs.Rows.OneSharedLaws.{shares, shares_one}
 use Rattle.test_definitions.proofs.pictures.one_shared_object.Goals as goal
 
 pub returns-clause-shares : goal.returns-clause-shares

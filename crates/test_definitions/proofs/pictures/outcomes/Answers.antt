@@ -1,4 +1,4 @@
-use Rattle.test_definitions.proofs.Whole.{within_after, sound_after, not_both}
+use Rattle.test_definitions.proofs.WorkedImages.Whole.{within_after, sound_after, not_both}
 use Rattle.test_definitions.proofs.pictures.outcomes.Goals as goal
 
 pub returns : goal.returns

@@ -1,5 +1,5 @@
-use Rattle.test_definitions.proofs.OwnerTieLaws.{next_owners, exchanged}
-use Rattle.test_definitions.proofs.MovedObjectLaws.{no_owner_comes}
+use Rattle.test_definitions.proofs.Rows.OwnerTieLaws.{next_owners, exchanged}
+use Rattle.test_definitions.proofs.Rows.MovedObjectLaws.{no_owner_comes}
 use Rattle.test_definitions.proofs.pictures.owners_between_rows.Goals as goal
 
 pub returns : goal.returns

@@ -1,4 +1,4 @@
-use Rattle.test_definitions.proofs.Several.{all_within, held_after}
+use Rattle.test_definitions.proofs.WorkedImages.Several.{all_within, held_after}
 use Rattle.test_definitions.proofs.pictures.several_clients.Goals as goal
 
 pub returns : goal.returns

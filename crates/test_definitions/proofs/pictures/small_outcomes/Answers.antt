@@ -1,7 +1,7 @@
 use Rattle.std.proofs.Common.{List, [], ◌∷◌, length, replicate, refl, lit≤, arith}
 use Rattle.seg_spec.specs.Fixtures.{counter}
 use Rattle.seg_spec.specs.Faulty.{IsImageLength}
-use Rattle.test_definitions.proofs.SoundImages.{counter_sound}
+use Rattle.test_definitions.proofs.WorkedImages.SoundImages.{counter_sound}
 use Rattle.client_spec.specs.Syntax.{Client}
 use Rattle.client_spec.specs.Grammar.{SpellsClient, client_bytes}
 use Rattle.seg_spec.specs.Types.{Table}

@@ -1,4 +1,4 @@
-use Rattle.test_definitions.proofs.IncrementLaws.{counter_pictured}
+use Rattle.test_definitions.proofs.WorkedRuns.IncrementLaws.{counter_pictured}
 use Rattle.test_definitions.proofs.pictures.the_counter.Goals as goal
 
 pub returns : goal.returns

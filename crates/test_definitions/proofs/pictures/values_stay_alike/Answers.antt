@@ -1,6 +1,6 @@
 use Rattle.std.proofs.Common.{refl}
-use Rattle.test_definitions.proofs.PersistAlikeLaws.{persist_alike}
-use Rattle.test_definitions.proofs.BareValueLaws.{bare_alike}
+use Rattle.test_definitions.proofs.ValueChanges.PersistAlikeLaws.{persist_alike}
+use Rattle.test_definitions.proofs.ValueChanges.BareValueLaws.{bare_alike}
 use Rattle.test_definitions.proofs.pictures.values_stay_alike.Goals as goal
 
 pub returns : goal.returns

@@ -1,4 +1,4 @@
-use Rattle.test_definitions.proofs.StoppedRunLaws.{front_of_whole}
+use Rattle.test_definitions.proofs.Runs.StoppedRunLaws.{front_of_whole}
 use Rattle.test_definitions.proofs.safety.stopped_is_a_front.Goals as goal
 
 pub returns : goal.returns

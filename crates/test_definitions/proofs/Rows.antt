@@ -1,0 +1,24 @@
+-- What a row determines, and what it keeps.
+pub mod KeptImageLaws
+pub mod PathOriginLaws
+pub mod OnePlaceLaws
+pub mod PlaceRowLaws
+pub mod OneReturnLaws
+pub mod OneFrozenLaws
+pub mod FrozenRowLaws
+pub mod OwnerTieLaws
+pub mod MovedObjectLaws
+pub mod OneState
+pub mod OneRow
+pub mod NewBlockLaws
+pub mod OwningRegisterLaws
+pub mod KeptRowLaws
+pub mod ChangedPlaceRowLaws
+pub mod OneSharedLaws
+pub mod MadeBlockLaws
+pub mod AnsweredRowLaws
+pub mod OwnerRegisterLaws
+pub mod NewObjectLaws
+pub mod MakeRowLaws
+pub mod ApartRowLaws
+pub mod OwnerMoveLaws

@@ -1,0 +1,24 @@
+-- Two situations that are alike are so again after each instruction.
+pub mod ClearStepLaws
+pub mod ShareStepLaws
+pub mod PlaceStepLaws
+pub mod PlaceTwoStepLaws
+pub mod StoreStepLaws
+pub mod TextStepLaws
+pub mod ShrinkStepLaws
+pub mod AddingStepLaws
+pub mod RemovingStepLaws
+pub mod GrownStepLaws
+pub mod UniqueStepLaws
+pub mod NewStepLaws
+pub mod MakeStepLaws
+pub mod DropStepLaws
+pub mod ApartStepLaws
+pub mod MovedStepLaws
+pub mod TakeStepLaws
+pub mod PutStepLaws
+pub mod FreezeStepLaws
+pub mod LostStepLaws
+pub mod KillUniqueStepLaws
+pub mod KillStepLaws
+pub mod AlikeRowLaws

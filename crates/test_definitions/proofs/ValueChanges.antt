@@ -1,0 +1,19 @@
+-- Values and places before and after a change.
+pub mod AlikePlaceLaws
+pub mod BlockKindLaws
+pub mod DefaultCellLaws
+pub mod PersistAlikeLaws
+pub mod AroundPersistLaws
+pub mod RootPersistLaws
+pub mod ChangedPlaceLaws
+pub mod PlaceValueLaws
+pub mod BareValueLaws
+pub mod AddedValueLaws
+pub mod NewPartLaws
+pub mod ContainerValueLaws
+pub mod RemovedValueLaws
+pub mod RemovedPartLaws
+pub mod ReleasedPartLaws
+pub mod ApartPlaceLaws
+pub mod OwnCellLaws
+pub mod SharedPlaceLaws
