@@ -10,8 +10,8 @@ use Rattle.seg_spec.specs.Bytes.{word}
 use Rattle.seg_spec.specs.Header.{version_word, allocator_word, next_word, sharing_version}
 use Rattle.seg_spec.specs.Types.{Form, Table, form_at, size}
 use Rattle.seg_spec.specs.Value.{Label, Value, node, nil, Full}
-use Rattle.seg_spec.specs.Block.{block_of}
-use Rattle.seg_spec.specs.Heap.{Span, Granted, live}
+use Rattle.seg_spec.specs.Block.{block_of, Kind, tag_of}
+use Rattle.seg_spec.specs.Heap.{Span, Granted, live, tag_at}
 use Rattle.seg_spec.specs.Heap as heap
 use Rattle.seg_spec.specs.Spending as Spending
 use Rattle.seg_spec.specs.Reads.{Place, Holds}
@@ -30,6 +30,7 @@ use Rattle.seg_spec.proofs.Heap.FreeOrderLaws.{in_any_order}
 use Rattle.seg_spec.specs.Destroying.{HoldFrozen}
 use Rattle.seg_spec.proofs.Frozen.PartCountLaws.{names_same}
 use Rattle.seg_spec.proofs.Heap.LiveBlockLaws.{times-append, times-same}
+use Rattle.seg_spec.proofs.Frozen.ReleaseLaws.{frozen_there}
 use Rattle.seg_spec.proofs.Frozen.OneMoreObjectLaws.{not_there}
 use Rattle.client_spec.specs.Machine.{◌>>=◌, Origin, Path, Register, State, register, set_register, owned_by, path_value, put_at}
 use Rattle.client_spec.specs.Grammar.{IsInstruction}
@@ -569,6 +570,8 @@ module _ (allocator : ℕ) (constants : List Constant) (role : Role) (a b c : �
           payload = z.payload;
           points_to = cell_points new table (place_in w b) f.held z.payload form_here z.holds_it;
           gets_block = subst (λ (n : ℕ). GetsBlock w.image (frozen_words + n) z.payload) (ap (λ (ts : Table). size ts f.held) pictured.types ∙ ap (size h.plain.types) (sym o.type_is)) gets;
+          tagged = subst (λ T. tag_at new (block_of z.payload) ≡ tag_of Kind.frozen T) (sym o.type_is) (frozen_there new table (frozen_now z.payload f.held next o.value) _ z.holds.0).block.has_tag;
+          numbered = (frozen_there new table (frozen_now z.payload f.held next o.value) _ z.holds.0).number_is;
           moves = subst (λ (ts : Table). Persists w.image new ts (object_at o.root.at o.root.type) (object_at (z.payload + frozen_words) o.root.type)) pictured.types
               (subst (λ T. Persists w.image new table (object_at o.root.at T) (object_at (z.payload + frozen_words) T)) (sym o.type_is)
               (subst (λ at. Persists w.image new table (object_at at f.held) (object_at (z.payload + frozen_words) f.held)) o.at_is whole.1));
