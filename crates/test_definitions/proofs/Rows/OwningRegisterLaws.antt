@@ -267,8 +267,29 @@ takes s a p t (Some v) = answered_moved Operation.Take s success a _ (put_at s p
 
 -- lemmas about the parts of rows that make, destroy and move no object
 ruleset row_parts = (
-  none, given, given_put, put_some, copies, combines, writes, next, item, counts, sees, value_item, bytes_pop, last_pop, first_pop, text, key,
-  bound, either, shown, roomy, some, still
+  none,
+  given,
+  given_put,
+  put_some,
+  copies,
+  combines,
+  writes,
+  next,
+  item,
+  counts,
+  sees,
+  value_item,
+  bytes_pop,
+  last_pop,
+  first_pop,
+  text,
+  key,
+  bound,
+  either,
+  shown,
+  roomy,
+  some,
+  still,
 )
 
 module _ (constants : List Constant) (s : State) where

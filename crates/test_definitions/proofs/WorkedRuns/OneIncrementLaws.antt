@@ -1,24 +1,15 @@
 -- The increment has one outcome.
-use Rattle.std.proofs.Common.{◌≡◌, ◌≢◌, ℕ, inl, inr, true, List, [], ◌∷◌, ◌++◌, get_or, refl, sym, ap, ◌∙◌, subst, arith}
-use Rattle.std.specs.Prelude.{codes, ◌&&◌}
+use Rattle.std.proofs.Common.{◌≡◌, ◌≢◌, ℕ, inl, inr, List, [], ◌∷◌, ◌++◌, get_or, sym, ap, ◌∙◌, subst, arith}
+use Rattle.std.specs.Prelude.{codes}
 use Rattle.std.proofs.lemmas.List.{append-nil}
-use Rattle.client_spec.specs.Syntax.{Instruction, Statement, plain, opener, loop, Statements, no_more, next, Client}
 use Rattle.client_spec.specs.Run.{finished, stopped}
 use Rattle.client_spec.specs.OnImages.{Left}
 use Rattle.client_spec.specs.Fixtures.{increment}
-use Rattle.client_spec.proofs.Runs.KeptByRunLaws.{Each, EachOne}
-use Rattle.client_spec.proofs.TypedStates.StateLaws.{both_true}
-use Rattle.client_spec.specs.Grammar.{client_bytes, SpellsClient}
-use Rattle.client_spec.specs.Clients.{AreAccepted}
-use Rattle.client_spec.proofs.Spelling.OneClientLaws.{one_client}
-use Rattle.seg_spec.specs.Types.{Table}
+use Rattle.client_spec.specs.Grammar.{client_bytes}
 use Rattle.seg_spec.specs.Fixtures.{counter}
-use Rattle.client_sim.specs.Staying.{code_passes, statement_passes}
 use Rattle.test_definitions.specs.RefusedOutcomes.{IsOutcomeOf}
-use Rattle.test_definitions.specs.Agreement.{settles, StayAlike, AllStayAlike, IsLonger, OneOutcome}
-use Rattle.test_definitions.proofs.Steps.AlikeRowLaws.{settled_alike}
+use Rattle.test_definitions.specs.Agreement.{IsLonger, OneOutcome}
 use Rattle.test_definitions.proofs.Runs.OneOutcomeLaws.{outcomes_alike}
-use Rattle.test_definitions.proofs.WorkedRuns.IncrementLaws.{increment_spelled}
 use Rattle.test_definitions.proofs.WorkedRuns.CounterRun.{left, outcome_is}
 
 module _ (other : Left) (o : IsOutcomeOf increment counter other) where
