@@ -1,7 +1,7 @@
 #!/usr/bin/env bash
 # Tries the must-fail edits in checks/edits/CRATE/, which the gate leaves out to save time: wrong bodies of calls that only Lezgauri's own
-# crates make, and of exports for C beside one of the same file. The prover must refuse each. What an inner call promises is used by the
-# proofs of the calls above, whose edits the gate tries.
+# crates make, of exports for C beside one of the same file, and of single clauses of other calls. The prover must refuse each. What an
+# inner call promises is used by the proofs of the calls above, whose edits the gate tries.
 #
 #   edits.sh [CRATE..]    tries the edits of these crates, or of all, on the last commit. Proves each of them first, unless a gate on
 #                         this machine did
