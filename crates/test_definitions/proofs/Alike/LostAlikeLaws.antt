@@ -1,22 +1,18 @@
 -- Two images that are alike are so again after both lost the same objects.
-use Rattle.std.proofs.Common.{◌≡◌, ℕ, zero, suc, ◌+◌, ◌≤◌, inl, inr, List, [], ◌∷◌, ◌++◌, length, refl, sym, ap, ◌∙◌, subst, arith}
+use Rattle.std.proofs.Common.{◌≡◌, ℕ, ◌+◌, ◌≤◌, inl, inr, List, [], ◌∷◌, ◌++◌, length, refl, sym, ap, ◌∙◌, subst}
 use Rattle.std.specs.List.{AllByRecursion}
 use Rattle.seg_spec.specs.Bytes.{word}
 use Rattle.seg_spec.specs.Header.{allocator_word, next_word, index_kind_word, KeepsFront}
-use Rattle.seg_spec.specs.Pointer.{target}
-use Rattle.seg_spec.specs.Shapes.{tree_words}
 use Rattle.seg_spec.specs.Types.{Table, IsTable}
 use Rattle.seg_spec.specs.Heap.{live}
 use Rattle.seg_spec.specs.Block.{block_of}
-use Rattle.seg_spec.specs.Apart.{KeepsBlockAround}
 use Rattle.seg_spec.specs.Reads.{items}
-use Rattle.seg_spec.specs.Index.{Root, index_node_size}
+use Rattle.seg_spec.specs.Index.{Root}
 use Rattle.seg_spec.specs.Frozen.{Frozen, root_of_frozen}
-use Rattle.seg_spec.specs.Sound.{Picture, IsHeld, HoldsRoots, roots_of, times, positions}
+use Rattle.seg_spec.specs.Sound.{HoldsRoots, roots_of, times, positions}
 use Rattle.seg_spec.specs.Counting.{cells_in}
-use Rattle.seg_spec.specs.Roots.{SamePicture}
+use Rattle.seg_spec.specs.Roots.{SamePicture, KeepsNodes}
 use Rattle.seg_spec.proofs.Frozen.ReleaseLaws.{IsFrozenThere}
-use Rattle.seg_spec.proofs.Values.PlaceFrameLaws.{target-same}
 use Rattle.client_spec.specs.Machine.{State}
 use Rattle.client_spec.specs.Pictures.{Pictures}
 use Rattle.client_spec.specs.Ties.{places_of}
@@ -25,30 +21,17 @@ use Rattle.test_definitions.specs.Alike.{AlikeEach, AlikeRoot, AreAlike}
 use Rattle.test_definitions.proofs.Alike.AlikeChangeLaws.{among_as, value_kept}
 use Rattle.test_definitions.proofs.Runs.AlikeFirstLaws.{frozen_order}
 use Rattle.test_definitions.proofs.Alike.AlikeKeptLaws.{roots_kept}
-use Rattle.test_definitions.proofs.Alike.AlikePictureLaws.{SameEntries, tree_index, node_there, alike_after, entries_alike}
+use Rattle.test_definitions.proofs.Alike.AlikePictureLaws.{SameEntries, alike_after}
+use Rattle.test_definitions.proofs.Alike.IndexAlikeLaws.{entries_stay}
 use Rattle.test_definitions.proofs.Frozen.FrozenContentLaws.{inside_kept, value_same}
 use Rattle.test_definitions.proofs.Frozen.FrozenStayLaws.{Found, then_same, counted_same}
 use Rattle.test_definitions.proofs.Frozen.FrozenOrderLaws.{IsOneOf}
 use Rattle.test_definitions.proofs.Alike.GrownImageLaws.{split_root, owner_in, frozen_in}
 use Rattle.test_definitions.proofs.Alike.LostObjectLaws.{LosesObjects, rest, rest_kept, frozen_was, frozen_stays, content, counted_after, there_before, its_owned, its_kept, index_was}
 use Rattle.test_definitions.proofs.Rows.OneFrozenLaws.{Reordered, reordered, is_there, point_lower}
-use Rattle.test_definitions.proofs.Rows.OnePlaceLaws.{kinds as kinds_same}
 use Rattle.test_definitions.proofs.Rows.OneReturnLaws.{one_index}
 use Rattle.test_definitions.proofs.Rows.OneState.{AsPictured, as_pictured}
 use Rattle.test_definitions.proofs.Alike.RootMemberLaws.{IsAmong, each_among, among_right, index_live}
-
--- a node that is kept, except for its tree words, has the same entry
-entry_around : (old new : List ℕ) (r : Picture) (held : IsHeld old r) → (word old index_kind_word ≡ 0 → ⊥) → (node : ℕ) → 16 ≤ node → 1 ≤ times (block_of node) held.index_blocks → KeepsBlockAround old new node tree_words (block_of node)
-    → target new (node + tree_words) ≡ target old (node + tree_words)
-entry_around old new r held tree node low some k =
-    let t = tree_index old r held tree in
-    let n = node_there t.nodes node _ _ t.are_nodes low (subst (λ bs. 1 ≤ times (block_of node) bs) t.blocks_are some) in
-    let room : index_node_size ≤ _ = n.0.room in
-    target-same old new (node + tree_words) (k.payload (node + tree_words) 4 (omega (arith, low)) (omega (arith, low, room)) (inr (omega arith)))
-
-one_kind : (n : ℕ) → n ≤ 1 → (n ≡ 0 → ⊥) → n ≡ 1
-one_kind zero low some = absurd (some refl)
-one_kind (suc n) low some = omega (arith, low)
 
 pub each_root : (P : Root → Type 0) (rs : List Root) → ((c : Root) → IsAmong c rs → P c) → AllByRecursion P rs
 each_root P [] f = tt
@@ -166,28 +149,20 @@ module _ {others : List Root} {s s' : State} {places first second : List ℕ} (a
 
     -- ---- the index
 
-    entries : word new index_kind_word ≡ word first index_kind_word → word other index_kind_word ≡ word second index_kind_word → (word new index_kind_word ≡ 0 → ⊥) → SameEntries new other p'.held.index_blocks
-    entries kinds kinds_too tree node low some =
-        let tree_first : word first index_kind_word ≡ 0 → ⊥ = λ e. tree (kinds ∙ e) in
-        let tree_second : word second index_kind_word ≡ 0 → ⊥ = λ e. tree_first (kinds_same alike ∙ e) in
-        let was = index_was p p' front gone back l (block_of node) some in
-        let in_alike = subst (λ bs. 1 ≤ times (block_of node) bs) (one_index first p.picture alike.picture p.held alike.held) was in
-        let in_alike_too = subst (λ bs. 1 ≤ times (block_of node) bs) (sym alike.index_same) in_alike in
-        let was_too = subst (λ bs. 1 ≤ times (block_of node) bs) (one_index second alike.picture q.picture alike.held_too q.held) in_alike_too in
+    entries : word new index_kind_word ≡ word first index_kind_word → (word new index_kind_word ≡ 0 → ⊥) → SameEntries new other p'.held.index_blocks
+    entries kinds tree node low some =
+        let mine = one_index first p.picture alike.picture p.held alike.held in
+        let theirs = one_index second q.picture alike.picture q.held alike.held_too in
+        let was = subst (λ bs. 1 ≤ times (block_of node) bs) mine (index_was p p' front gone back l (block_of node) some) in
         let now = index_live new p'.picture p'.held (block_of node) some in
-        let now_too : 1 ≤ times (block_of node) (positions (live other)) = subst (λ bs. 1 ≤ times (block_of node) (positions bs)) (sym lives) now in
-        let one = one_kind (word first index_kind_word) p.held.laid_out.header.index_is tree_first in
-        let one_too = one_kind (word second index_kind_word) q.held.laid_out.header.index_is tree_second in
-        let at_node : block_of node + 16 ≡ node = omega (arith, low) in
-        let kept = subst (λ n. KeepsBlockAround first new n tree_words (block_of node)) at_node (l.nodes one (block_of node) was now) in
-        let kept_too = subst (λ n. KeepsBlockAround second other n tree_words (block_of node)) at_node (m.nodes one_too (block_of node) was_too now_too) in
-        entry_around second other q.picture q.held tree_second node low was_too kept_too ∙ entries_alike alike tree_first node low in_alike ∙ sym (entry_around first new p.picture p.held tree_first node low was kept)
+        let now_too = subst (λ bs. 1 ≤ times (block_of node) (positions bs)) (sym lives) now in
+        entries_stay alike new other (λ e. tree (kinds ∙ e)) (subst (KeepsNodes first new) mine l.nodes) (subst (KeepsNodes second other) theirs m.nodes) node low was now now_too
 
     -- ---- the images after
 
-    pub lost_alike : length other ≡ length new → KeepsFront new other → word other next_word ≡ word new next_word → word new index_kind_word ≡ word first index_kind_word → word other index_kind_word ≡ word second index_kind_word
+    pub lost_alike : length other ≡ length new → KeepsFront new other → word other next_word ≡ word new next_word → word new index_kind_word ≡ word first index_kind_word
         → p'.picture.names ≡ q'.picture.names → p'.picture.uniques ≡ q'.picture.uniques → p'.owned ≡ q'.owned → AreAlike others (places_of p'.owned) new other
-    lost_alike lengths front_same next kinds kinds_too names uniques owned = alike_after p' q' (record {
+    lost_alike lengths front_same next kinds names uniques owned = alike_after p' q' (record {
       length_same = lengths;
       front_same = front_same;
       next_same = next;
@@ -197,6 +172,6 @@ module _ {others : List Root} {s s' : State} {places first second : List ℕ} (a
       uniques = uniques;
       owned = owned;
       order = same_objects;
-      entries = entries kinds kinds_too;
+      entries = entries kinds;
       roots = each_root (AlikeRoot new other p'.picture.table) (roots_of p'.picture) root_after;
     })

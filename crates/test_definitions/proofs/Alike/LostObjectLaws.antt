@@ -11,7 +11,6 @@ use Rattle.seg_spec.specs.Heap.{live}
 use Rattle.seg_spec.specs.Block.{KeepsBlock, block_of}
 use Rattle.seg_spec.specs.Apart.{KeepsBlockAround}
 use Rattle.seg_spec.specs.Reads.{Place}
-use Rattle.seg_spec.specs.Shapes.{tree_words}
 use Rattle.seg_spec.specs.Index.{Root, AreAscending, AreRising, root_named, root_of_type}
 use Rattle.seg_spec.specs.Frozen.{Frozen, root_of_frozen, blocks_by}
 use Rattle.seg_spec.specs.Shared.{names_in, IsBelow, IsCounted, left, freed}
@@ -46,10 +45,6 @@ use Rattle.test_definitions.proofs.Alike.RootMemberLaws.{IsAmong, each_among, am
 each_object : (P : Frozen → Type 0) (fs : List Frozen) → ((f : Frozen) → IsOneOf f fs → P f) → AllByRecursion P fs
 each_object P [] a = tt
 each_object P (f ∷ fs) a = (a f (inl refl), each_object P fs (λ g i. a g (inr i)))
-
--- a block of which all bytes are kept
-pub around_node : (old new : List ℕ) (h : ℕ) → KeepsBlockAround old new 0 0 h → KeepsBlockAround old new (h + 16) tree_words h
-around_node old new h k = record { solid = k.solid; header = k.header; payload = λ g m low high apart. k.payload g m low high (inr (omega arith)) }
 
 module _ {others : List Root} {s t : State} {old new : List ℕ} (p : Pictures others s old) (p' : Pictures others t new) (front gone back : List Root) where
   -- ---- the objects that stay

@@ -35,8 +35,9 @@ use Rattle.test_definitions.proofs.Runs.EndedImageLaws.{frozen_by}
 use Rattle.test_definitions.proofs.Frozen.FrozenApartLaws.{frozen_apart}
 use Rattle.test_definitions.proofs.Frozen.FrozenOrderLaws.{IsOneOf, each_of}
 use Rattle.test_definitions.proofs.Alike.GrownImageLaws.{frozen_in, owner_in}
+use Rattle.test_definitions.proofs.Alike.IndexAlikeLaws.{whole_nodes}
 use Rattle.test_definitions.proofs.Rows.KeptImageLaws.{whole}
-use Rattle.test_definitions.proofs.Alike.LostObjectLaws.{around_node, KeepsRest, LosesObjects, rest, names_stay, uniques_stay}
+use Rattle.test_definitions.proofs.Alike.LostObjectLaws.{KeepsRest, LosesObjects, rest, names_stay, uniques_stay}
 use Rattle.test_definitions.proofs.Alike.LostAlikeLaws.{was_alike, order, each_root, lost_alike}
 use Rattle.test_definitions.proofs.Rows.OneFrozenLaws.{freed_blocks}
 use Rattle.test_definitions.proofs.Rows.OneState.{AsPictured, as_pictured}
@@ -151,10 +152,10 @@ module _ (given : Given) (x : Situation) (left_is : Left) (e : IsLeftAfter given
           ∙ unique_value was (each_left IsPlain was.uniques was.loose before.held.laid_out.plain) T
 
   nodes : KeepsNodes x.image left_is.image e.trees.pictured.held.index_blocks
-  nodes tree h some now =
+  nodes = whole_nodes x.image left_is.image was before.held before.held.index_blocks (λ h some. (let n = (rest before after front owned [] keeps).counts h in omega (arith, n, some))) (λ h some. (
       let n = (rest before after front owned [] keeps).counts h in
       let once = live-once x.image (word x.image allocator_word) before.held.laid_out.heap h in
-      around_node x.image left_is.image h (around h (omega (arith, n, some)) (omega (arith, n, once, some)) (omega (arith, n, once, some)))
+      whole x.image left_is.image h (around h (omega (arith, n, some)) (omega (arith, n, once, some)) (omega (arith, n, once, some)))))
 
   pub loses : LosesObjects before after front owned []
   loses = record {
@@ -259,7 +260,7 @@ module _ (others : List Root) (moves moves_too : List Move) (base base_too : ℕ
 
     pub ends_alike : AreAlike others [] left_is.image other_is.image
     ends_alike = lost_alike a p q e.owned_are at_too now now_too (p.picture.names ++ (p.picture.uniques ++ others)) p.owned [] (loses given x left_is e) loses_too live_too
-        (f.length_kept ∙ a.length_same ∙ sym e.length_kept) (f.header_kept ∙ a.front_same ∙ sym e.header_kept) (f.next_kept ∙ a.next_same ∙ sym e.next_kept) (kinds_stay given x left_is e) (kinds_stay given_too z other_is f)
+        (f.length_kept ∙ a.length_same ∙ sym e.length_kept) (f.header_kept ∙ a.front_same ∙ sym e.header_kept) (f.next_kept ∙ a.next_same ∙ sym e.next_kept) (kinds_stay given x left_is e)
         (names_same given x left_is e ∙ pictures.same.names ∙ sym (names_same given_too z other_is f)) (uniques_same given x left_is e ∙ pictures.same.uniques ∙ sym (uniques_same given_too z other_is f)) refl
 
 -- the same for any two clients' givens with the same loose objects

@@ -31,9 +31,10 @@ use Rattle.test_definitions.proofs.ValueChanges.ChangedPlaceLaws.{holds_one}
 use Rattle.test_definitions.proofs.Runs.EndedImageLaws.{frozen_by}
 use Rattle.test_definitions.proofs.Frozen.FrozenApartLaws.{frozen_apart}
 use Rattle.test_definitions.proofs.Frozen.FrozenOrderLaws.{IsOneOf, each_of}
+use Rattle.test_definitions.proofs.Alike.IndexAlikeLaws.{whole_nodes}
 use Rattle.test_definitions.proofs.Rows.KeptImageLaws.{whole}
 use Rattle.test_definitions.proofs.Rows.KeptRowLaws.{owned_kept, one}
-use Rattle.test_definitions.proofs.Alike.LostObjectLaws.{around_node, KeepsRest, LosesObjects}
+use Rattle.test_definitions.proofs.Alike.LostObjectLaws.{KeepsRest, LosesObjects}
 use Rattle.test_definitions.proofs.Alike.LostAlikeLaws.{lost_alike}
 use Rattle.test_definitions.proofs.Rows.OwningRegisterLaws.{moves_owners}
 use Rattle.test_definitions.proofs.Steps.PlaceStepLaws.{tables_stay, kinds_stay, nothing_changes}
@@ -112,7 +113,8 @@ module _ (constants : List Constant) (others : List Root) (moves : List Move) (i
         freeing = own.2.1;
         returned = only_given constants i p y.image g none ∙ ap (after_gives (live x.image)) (own.2.2 ∙ ap (λ xs. xs ++ own.2.0) (sym (append-nil own.0)));
         kept = λ h some none no_index none_frozen. whole x.image y.image h (around own.0 (held_here d own.0 own.1) h some none none_frozen);
-        nodes = λ tree h some now. (let a = index_apart d own.0 among (held_here d own.0 own.1) h some in around_node x.image y.image h (around own.0 (held_here d own.0 own.1) h a.0 a.1 a.2));
+        nodes = whole_nodes x.image y.image p.picture p.held p.held.index_blocks (λ h some. (index_apart d own.0 among (held_here d own.0 own.1) h some).0)
+            (λ h some. (let a = index_apart d own.0 among (held_here d own.0 own.1) h some in whole x.image y.image h (around own.0 (held_here d own.0 own.1) h a.0 a.1 a.2)));
       }
     where
       around : (its : List ℕ) → HoldsRoot x.image r.before.pictured.picture.table d its → (h : ℕ) → 1 ≤ times h (positions (live x.image)) → times h its ≡ 0
@@ -172,7 +174,7 @@ both_lost constants others moves i x z y w stand r q front gone back l m names u
     let both = one constants others moves i x z y w success success stand r q in
     let images = lost_alike alike r.before.pictured q.before.pictured r.owned_before (q.owned_before ∙ stand.owned) r.after.pictured q.after.pictured front gone back l m (sym both.2)
     (q.length_kept ∙ alike.length_same ∙ sym r.length_kept) (q.header_kept ∙ alike.front_same ∙ sym r.header_kept)
-    (q.ties.next_is ∙ ap (next_after i.operation success) alike.next_same ∙ sym r.ties.next_is) (kinds_stay constants others moves i x y success r) (kinds_stay constants others moves i z w success q) names uniques owned in
+    (q.ties.next_is ∙ ap (next_after i.operation success) alike.next_same ∙ sym r.ties.next_is) (kinds_stay constants others moves i x y success r) names uniques owned in
     record {
       answers = refl;
       stand = record {
