@@ -5,8 +5,6 @@
 --     OnCell allocator old table p object claim
 --                                        the claim is true of the cell at p, which has the object's
 --                                        type, if a number is left for a frozen object
---     FreezesParts allocator old new table cell T object v inside blocks names theirs now
---                                        an object was frozen with the parts that it had
 --     FreezesObject allocator old new table p object
 --                                        the object becomes frozen, and the cell at p refers to it
 --     RefusesToFreeze allocator old new table p object
@@ -21,10 +19,9 @@ use Rattle.seg_spec.specs.Demand.{block_for}
 use Rattle.seg_spec.specs.Frozen.{Frozen, frozen_words}
 use Rattle.seg_spec.specs.Header.{next_word}
 use Rattle.seg_spec.specs.Owning.{Stands}
-use Rattle.seg_spec.specs.Parts.{Persists}
 use Rattle.seg_spec.specs.Reads.{Place, Holds}
 use Rattle.seg_spec.specs.Shared.{names_in, IsBelow, raised_by, left}
-use Rattle.seg_spec.specs.Sharing.{FrozenBeside, Freezes}
+use Rattle.seg_spec.specs.Sharing.{FrozenBeside, FreezesParts}
 use Rattle.seg_spec.specs.Types.{Form, Table, form_at, size}
 use Rattle.seg_spec.specs.Value.{Value}
 
@@ -61,14 +58,6 @@ OnCell allocator old table p object claim =
     (names_in x ++ (names_in v ++ kept)) (word old next_word) theirs now →
     suc (word old next_word) < 2 ^ 32 →
     claim T v x blocks inside theirs now
-
--- the frozen object keeps, at its new position, each of its parts
-abbrev pub FreezesParts : ℕ → List ℕ → List ℕ → Table → Place → ℕ → ℕ → Value → List ℕ →
-    List ℕ → List Place → (ℕ → List ℕ) → List Frozen → Type 0
-FreezesParts allocator old new table cell T object v inside blocks names theirs now =
-    (freezes : Freezes allocator old new table cell T object v inside blocks names theirs now) ×
-    Persists old new table (record { at = object; type = T })
-    (record { at = freezes.payload + frozen_words; type = T })
 
 -- the object that the cell shared before is released
 abbrev pub FreezesObject : ℕ → List ℕ → List ℕ → Table → Place → ℕ → Type 0

@@ -15,11 +15,11 @@ use Rattle.seg_spec.specs.Cells.{IsWithin}
 use Rattle.seg_spec.specs.Index.{Root}
 use Rattle.seg_spec.specs.Sound.{Picture, HoldsRoot, times, positions}
 use Rattle.seg_spec.specs.Roots.{Listed, with_roots, KeepsNodes}
-use Rattle.seg_spec.specs.Demand.{Ask, block_for, after_asks, NoRoom}
+use Rattle.seg_spec.specs.Demand.{Ask, block_for, after_asks, NoRoom, GetsBlock}
 use Rattle.seg_spec.specs.Spending.{object_asks}
 use Rattle.seg_spec.specs.Owing.{KeepsLinked}
 use Rattle.seg_value.specs.Stored.{Stored}
-use Rattle.seg_manager.specs.Segments.{Becomes, Spends, GetsBlock, new_root}
+use Rattle.seg_manager.specs.Segments.{Becomes, Spends, new_root}
 
 -- n values of a type of the table lie in the segment, from a position on
 pub record HasValuesRoom (bytes : List ℕ) (table : Table) (at T n : ℕ) : Type 0 where
@@ -60,7 +60,7 @@ pub record MakesNamed (allocator : ℕ) (old new : Stored) (picture : Picture)
       index_blocks
   pub nodes_kept : KeepsNodes old.window.bytes new.window.bytes index_blocks
   pub spends : Spends allocator old new (object_asks old.window.bytes old.types T n name) []
-  pub gets_block : GetsBlock allocator old (n * size old.types T + length name) at
+  pub gets_block : GetsBlock allocator old.window.bytes (n * size old.types T + length name) at
 
 -- One of the requests wasn't granted. The segment has the same picture and the same allocated
 -- blocks with their bytes: what was allocated for the object was freed again.

@@ -6,7 +6,6 @@
 --                                         `gone` is kept
 --     Spends allocator old new asks gives
 --                                         the requests were granted, and these blocks were freed
---     GetsBlock allocator old n at        the request for n bytes gets the block of this object
 --     new_root table name T n at          an object of n default values
 --     MakesLoose, LosesLoose              a loose object was made; a loose object was destroyed
 --     MakesUnique, FindsOrMakes, RefusesUnique, LosesUnique
@@ -18,13 +17,13 @@ use Rattle.seg_spec.specs.Bytes.{word, ChangesOnly}
 use Rattle.seg_spec.specs.Header.{allocator_word, next_word, types_start, types_size, KeepsFront}
 use Rattle.seg_spec.specs.Types.{Table, size, longer}
 use Rattle.seg_spec.specs.Value.{copies, default_of}
-use Rattle.seg_spec.specs.Heap.{Span, live, fresh}
-use Rattle.seg_spec.specs.Block.{block_of, KeepsBlock}
+use Rattle.seg_spec.specs.Heap.{live}
+use Rattle.seg_spec.specs.Block.{KeepsBlock}
 use Rattle.seg_spec.specs.Index.{Root, root_of_type, plain_root}
 use Rattle.seg_spec.specs.Sound.{Picture, IsHeld, HoldsRoot, times, positions}
 use Rattle.seg_spec.specs.Roots.{Listed, with_roots}
 use Rattle.seg_spec.specs.Counting.{AreCounted, without_cells}
-use Rattle.seg_spec.specs.Demand.{Ask, block_for, after_ask, after_gives}
+use Rattle.seg_spec.specs.Demand.{Ask, block_for, after_gives, GetsBlock}
 use Rattle.seg_spec.specs.Destroying.{HoldFrozen, KeepFrozen}
 use Rattle.seg_spec.specs.Frozen.{blocks_by}
 use Rattle.seg_spec.specs.Shared.{names_each, left, freed}
@@ -59,12 +58,6 @@ Spends allocator old new asks gives =
     spent allocator (live old.window.bytes) (length old.window.bytes) asks gives
     ≡ Some (live new.window.bytes)
 
--- The request for a new block of n bytes gets the block of the object at this position.
-abbrev pub GetsBlock : ℕ → Stored → ℕ → ℕ → Type 0
-GetsBlock allocator old n at = (blocks : List Span) ×
-    (after_ask allocator (live old.window.bytes) (length old.window.bytes) (block_for n)
-    ≡ Some (fresh (block_of at) blocks))
-
 abbrev pub new_root : Table → List ℕ → ℕ → ℕ → ℕ → Root
 new_root table name T n at = plain_root name at T (copies n (default_of table T))
 
@@ -78,7 +71,7 @@ one_value table T = block_for (size table T) ∷ []
 pub record MakesLoose (allocator : ℕ) (old new : Stored) (picture : Picture)
     (T at : ℕ) : Type 0 where
   pub spends : Spends allocator old new (one_value old.types T) []
-  pub gets_block : GetsBlock allocator old (size old.types T) at
+  pub gets_block : GetsBlock allocator old.window.bytes (size old.types T) at
   pub joins : (before after : List Root) → picture.loose ≡ before ++ after →
       Becomes allocator old new
       (with_roots picture Listed.loose (before ++ new_root old.types [] T 1 at ∷ after)) []
@@ -116,7 +109,7 @@ pub record MakesUnique (allocator : ℕ) (old new : Stored) (picture : Picture)
     (T at : ℕ) : Type 0 where
   pub none : root_of_type picture.uniques T ≡ None
   pub spends : Spends allocator old new (one_value old.types T) []
-  pub gets_block : GetsBlock allocator old (size old.types T) at
+  pub gets_block : GetsBlock allocator old.window.bytes (size old.types T) at
   pub before : List Root
   pub after : List Root
   pub uniques_are : picture.uniques ≡ before ++ after

@@ -11,10 +11,12 @@
 --     FindsNoGap bs end ask, IsDenied     no free block is large enough for a request; the first such
 --                                         request of a list
 --     after_gives bs ats                  the allocated blocks after these were freed
-use Rattle.std.specs.Prelude.{◌≡◌, ℕ, ◌+◌, ◌-◌, ◌*◌, ◌/◌, ◌<◌, max, nat_le, if◌then◌else◌, List, [], ◌∷◌, ◌++◌, Option, Some, None, option_and_then}
+--     GetsBlock allocator bytes n at      the request for n bytes gets the block of this object
+use Rattle.std.specs.Prelude.{◌≡◌, ℕ, ◌+◌, ◌-◌, ◌*◌, ◌/◌, ◌<◌, max, nat_le, if◌then◌else◌, List, [], ◌∷◌, ◌++◌, length, Option, Some, None, option_and_then}
 use Rattle.std.specs.List.{AllByRecursion}
 use Rattle.std.specs.Option.{IfSome}
-use Rattle.seg_spec.specs.Heap.{Span, gaps_of, room_at, Granted, same, fresh, after_give, after_request, after_request_at}
+use Rattle.seg_spec.specs.Block.{block_of}
+use Rattle.seg_spec.specs.Heap.{Span, live, gaps_of, room_at, Granted, same, fresh, after_give, after_request, after_request_at}
 
 -- the size in units of a block for n payload bytes: its header and payload, and at least 2
 abbrev pub need : ℕ → ℕ
@@ -63,6 +65,12 @@ after_ask allocator bs end ask = after_request_of allocator bs end ask.old ask.p
 abbrev pub blocks_then : Granted → List Span
 blocks_then (same bs) = bs
 blocks_then (fresh at bs) = bs
+
+-- the request for a new block of n bytes gets the block of the object at this position
+abbrev pub GetsBlock : ℕ → List ℕ → ℕ → ℕ → Type 0
+GetsBlock allocator bytes n at = (blocks : List Span) ×
+    (after_ask allocator (live bytes) (length bytes) (block_for n)
+    ≡ Some (fresh (block_of at) blocks))
 
 -- The allocated blocks after all requests, each applied to the result of the requests before it;
 -- none if a request isn't granted.

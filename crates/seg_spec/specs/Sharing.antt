@@ -11,6 +11,8 @@
 --                            like `theirs`, but the object at this position owns `its`
 --     Freezes allocator old new table cell T object v inside blocks names theirs now
 --                            an object was frozen, and a cell points to it
+--     FreezesParts allocator old new table cell T object v inside blocks names theirs now
+--                            the same, and the object keeps its parts
 use Rattle.std.specs.Prelude.{◌≡◌, ◌≢◌, ℕ, suc, ◌+◌, ◌-◌, ◌≤◌, ◌==◌, if◌then◌else◌, List, [], ◌∷◌, ◌++◌, length, Option, Some, None}
 use Rattle.std.specs.List.{AllByRecursion}
 use Rattle.seg_spec.specs.Bytes.{word, IsSame}
@@ -20,6 +22,7 @@ use Rattle.seg_spec.specs.Value.{Label, Value, nil, node}
 use Rattle.seg_spec.specs.Heap.{Span, IsHeap, live, link_at, heap_start}
 use Rattle.seg_spec.specs.Block.{KeepsBlock, IsOwnable, block_of}
 use Rattle.seg_spec.specs.Reads.{Place, Holds}
+use Rattle.seg_spec.specs.Parts.{Persists}
 use Rattle.seg_spec.specs.Apart.{KeepsBlockAround}
 use Rattle.seg_spec.specs.Sound.{HoldsRoot, times, SameBlocks, positions}
 use Rattle.seg_spec.specs.Demand.{block_for, after_asks, after_gives}
@@ -107,3 +110,11 @@ pub record Freezes (allocator : ℕ) (old new : List ℕ) (table : Table) (cell 
       KeepsBlockAround old new cell.at (size table cell.type) h
   pub inside_kept : AllByRecursion (KeepsBlock old new) inside
   pub shared_kept : KeepFrozen old new theirs (left names now)
+
+-- the frozen object keeps, at its new position, each of its parts
+abbrev pub FreezesParts : ℕ → List ℕ → List ℕ → Table → Place → ℕ → ℕ → Value → List ℕ →
+    List ℕ → List Place → (ℕ → List ℕ) → List Frozen → Type 0
+FreezesParts allocator old new table cell T object v inside blocks names theirs now =
+    (freezes : Freezes allocator old new table cell T object v inside blocks names theirs now) ×
+    Persists old new table (record { at = object; type = T })
+    (record { at = freezes.payload + frozen_words; type = T })

@@ -30,9 +30,9 @@ use Rattle.seg_spec.proofs.Frozen.OneMoreObjectLaws.{with_own, by_others, hold_o
 use Rattle.seg_spec.proofs.Frozen.OneMoreCellLaws.{one_frozen}
 use Rattle.seg_spec.proofs.Frozen.CountIncreaseLaws.{counted_moved}
 use Rattle.seg_spec.proofs.Values.CallPlaceLaws.{each_live_at, live_at, stands_still, still_home}
-use Rattle.seg_spec.specs.Sharing.{FrozenBeside, frozen_now, with_blocks, MovesFrozen, Freezes}
+use Rattle.seg_spec.specs.Sharing.{FrozenBeside, frozen_now, with_blocks, MovesFrozen, Freezes, FreezesParts}
 use Rattle.seg_cells.specs.Places.{object_at}
-use Rattle.seg_value.specs.Sharing.{MovesParts, FreezesParts}
+use Rattle.seg_value.specs.Sharing.{MovesParts}
 use Rattle.seg_value.proofs.SharedCells.{ClearsCell, cell_changed}
 
 rest_is : {x y : ℕ} {xs ys : List ℕ} → x ∷ xs ≡ y ∷ ys → ys ≡ xs

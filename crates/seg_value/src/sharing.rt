@@ -19,8 +19,8 @@ ghost use Rattle.seg_spec.specs.Types.{Form, IsTable, form_at, size};
 ghost use Rattle.seg_spec.specs.Value.{Value};
 ghost use Rattle.seg_spec.specs.Window.{with_bytes, KeepsHost};
 ghost use Rattle.seg_cells.specs.Places.{place_of, object_at};
-ghost use Rattle.seg_value.specs.Sharing.{MovesParts, FreezesParts};
-ghost use Rattle.seg_spec.specs.Sharing.{FrozenBeside, cell_count};
+ghost use Rattle.seg_value.specs.Sharing.{MovesParts};
+ghost use Rattle.seg_spec.specs.Sharing.{FrozenBeside, FreezesParts, cell_count};
 
 use crate::{Content, FROZEN_WORDS, Heap, SegmentRead};
 use seg_block::{Fit, PayloadAt};

@@ -7,3 +7,4 @@ pub mod FrozenReleasedLaws
 pub mod RaisedCountLaws
 pub mod FrozenContentLaws
 pub mod ReachedFrozenLaws
+pub mod FreedBlockLaws

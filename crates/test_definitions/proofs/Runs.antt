@@ -6,6 +6,5 @@ pub mod CutOutputLaws
 pub mod AlikeRunLaws
 pub mod AlikeFirstLaws
 pub mod OneOutcomeLaws
-pub mod EndedImageLaws
 pub mod AlikeEndLaws
 pub mod SilentRunLaws

@@ -22,7 +22,7 @@ use Rattle.seg_spec.specs.Demand.{Ask, block_for, after_ask, after_asks, after_g
 use Rattle.seg_spec.specs.Frozen.{Frozen, frozen_words, blocks_by}
 use Rattle.seg_spec.specs.Shared.{names_in, IsBelow, AreDistinct, value_at_position, replaced, left}
 use Rattle.seg_spec.specs.Shared as Shared
-use Rattle.seg_spec.specs.Sharing.{FrozenBeside, frozen_now, Freezes}
+use Rattle.seg_spec.specs.Sharing.{FrozenBeside, frozen_now, Freezes, FreezesParts}
 use Rattle.seg_spec.specs.Index.{Root}
 use Rattle.seg_spec.specs.Sound.{HoldsRoot, times, positions, Picture}
 use Rattle.seg_spec.proofs.Frozen.PictureCountLaws.{left_and_freed}
@@ -35,7 +35,7 @@ use Rattle.seg_spec.proofs.Frozen.OneMoreObjectLaws.{not_there}
 use Rattle.client_spec.specs.Machine.{◌>>=◌, Origin, Path, Register, State, register, set_register, owned_by, path_value, put_at}
 use Rattle.client_spec.specs.Grammar.{IsInstruction}
 use Rattle.client_spec.specs.Asks.{LedTo, Asks, Refreezes}
-use Rattle.client_spec.specs.Ties.{object_at, GetsBlock, spot_of, OfRoot, OfOwner, FrozenKept, Changes, FreezesOwned, ObjectsStay}
+use Rattle.client_spec.specs.Ties.{object_at, AllocatesAt, spot_of, OfRoot, OfOwner, FrozenKept, Changes, FreezesOwned, ObjectsStay}
 use Rattle.seg_spec.specs.Apart.{KeepsBlockAround}
 use Rattle.client_spec.specs.Bare.{bare, bare_one}
 use Rattle.client_spec.specs.Pictures.{Pictures, meaning_in, trees_of}
@@ -69,7 +69,7 @@ use Rattle.client_spec.specs.Trees.{unfolded_register}
 use Rattle.client_sim.proofs.Objects.OwnedPlaceLaws.{owned_less, owning}
 use Rattle.client_sim.specs.Shows.{World, place_in, owns_in, KeepsRegister, Shows, ChangesImage}
 use Rattle.client_sim.specs.Seeing.{Anchored, Sees, SeenActs}
-use Rattle.client_sim.specs.Sharing.{CellClaim, OnCell, FreezesParts, FreezesObject, RefusesToFreeze}
+use Rattle.client_sim.specs.Sharing.{CellClaim, OnCell, FreezesObject, RefusesToFreeze}
 use Rattle.client_sim.specs.Acting.{AreDeclarationsRight, ActsAs, IsRefusedAs}
 use Rattle.client_sim.proofs.ImageChangeLaws.{of_frozen, changed, unchanged}
 use Rattle.client_sim.proofs.Places.LeafPutLaws.{with_image}
@@ -535,7 +535,7 @@ module _ (allocator : ℕ) (constants : List Constant) (role : Role) (a b c : �
         }
 
         -- the new block is the one that the request gets
-        gets : GetsBlock w.image (frozen_words + size table f.held) z.payload
+        gets : AllocatesAt w.image (frozen_words + size table f.held) z.payload
         unfolding z
         gets =
             let p = block_of z.payload in
@@ -569,7 +569,7 @@ module _ (allocator : ℕ) (constants : List Constant) (role : Role) (a b c : �
           led_to = subst (λ T. LedTo constants freeze pictured (place_in w b) (Form.shared T)) (sym o.type_is) led_to;
           payload = z.payload;
           points_to = cell_points new table (place_in w b) f.held z.payload form_here z.holds_it;
-          gets_block = subst (λ (n : ℕ). GetsBlock w.image (frozen_words + n) z.payload) (ap (λ (ts : Table). size ts f.held) pictured.types ∙ ap (size h.plain.types) (sym o.type_is)) gets;
+          gets_block = subst (λ (n : ℕ). AllocatesAt w.image (frozen_words + n) z.payload) (ap (λ (ts : Table). size ts f.held) pictured.types ∙ ap (size h.plain.types) (sym o.type_is)) gets;
           tagged = subst (λ T. tag_at new (block_of z.payload) ≡ tag_of Kind.frozen T) (sym o.type_is) (frozen_there new table (frozen_now z.payload f.held next o.value) _ z.holds.0).block.has_tag;
           numbered = (frozen_there new table (frozen_now z.payload f.held next o.value) _ z.holds.0).number_is;
           moves = subst (λ (ts : Table). Persists w.image new ts (object_at o.root.at o.root.type) (object_at (z.payload + frozen_words) o.root.type)) pictured.types

@@ -20,7 +20,7 @@ use Rattle.seg_spec.specs.Frozen.{blocks_by}
 use Rattle.seg_spec.specs.Shared.{names_each, left, freed}
 use Rattle.seg_spec.specs.Destroying.{HoldFrozen, KeepFrozen}
 use Rattle.seg_spec.specs.Counting.{AreCounted, without_cells, FrozenGone}
-use Rattle.seg_spec.specs.Demand.{NoRoom, after_gives}
+use Rattle.seg_spec.specs.Demand.{NoRoom, after_gives, GetsBlock}
 use Rattle.seg_spec.specs.Spending.{object_asks, spent, EntryBlocks, killed}
 use Rattle.seg_spec.proofs.Heap.LiveBlockLaws.{times-append}
 use Rattle.client_spec.specs.declared.table.Operation.{Operation}
@@ -33,7 +33,7 @@ use Rattle.client_spec.specs.Typed.{Class, RegisterType, RegisterTypes, known, i
 use Rattle.client_spec.specs.Typed as typed
 use Rattle.client_spec.specs.Meaning.{IsNamedBy, InClass, LeadsToType, IsAsKnown}
 use Rattle.client_spec.specs.Pictures.{Pictures, LeadsInImage, object_of}
-use Rattle.client_spec.specs.Ties.{nowhere, GetsBlock, OfRoot, Changes, ObjectsStay, NamesCome}
+use Rattle.client_spec.specs.Ties.{nowhere, AllocatesAt, OfRoot, Changes, ObjectsStay, NamesCome}
 use Rattle.client_spec.specs.Asks.{NamedGoes, GrantsAsks, Denies, named_asks, name_operand, new_count, if_absent}
 use Rattle.client_spec.proofs.TypedStates.ValueFormLaws.{first_of_many}
 use Rattle.client_spec.proofs.TypedStates.KnowledgeChangeLaws.{agrees_make, agrees_kill}
@@ -51,7 +51,7 @@ use Rattle.client_sim.proofs.EffectLaws.{with_place, acts_so, shows_reference, s
 use Rattle.client_sim.proofs.FrameLaws.{Frame, frame_same, unknown_same}
 use Rattle.client_sim.proofs.Frozen.FrozenPathLaws.{KeepsFrozen, frozen_same_image, frozen_left, frozen_beside_index}
 use Rattle.client_sim.proofs.Instructions.FindLaws.{IsNameFor, name_at, first_place}
-use Rattle.client_sim.proofs.GrantLaws.{GrantsBlock, gets_block, grants_spent}
+use Rattle.client_sim.proofs.GrantLaws.{gets_block, grants_spent}
 use Rattle.client_sim.proofs.Places.LeafPutLaws.{with_image}
 use Rattle.client_sim.proofs.Objects.NameByteLaws.{name_right}
 use Rattle.client_sim.proofs.Objects.NamedChangeLaws.{Comes, Goes, Stays, named_comes, named_goes, picture_stays}
@@ -86,7 +86,7 @@ module _ (allocator : ℕ) (old : List ℕ) (table : Table) (name : List ℕ) (T
     pub kept : (h : ℕ) → 1 ≤ times h (positions (live old)) → times h index_blocks ≡ 0 → KeepsBlock old new h
     pub nodes : KeepsNodes old new index_blocks
     pub left : spent allocator (live old) (length old) (object_asks old table T n name) [] ≡ Some (live new)
-    pub gets : GrantsBlock allocator old (n * size table T + length name) at
+    pub gets : GetsBlock allocator old (n * size table T + length name) at
 
   -- one of the requests had no room
   pub record IsDenied (n : ℕ) : Type 0 where
@@ -306,7 +306,7 @@ module _ {others : List Root} {types : Table} {constants : List Constant} {first
       let root = object_root s.types bytes T n at in
       let gets = gets_block allocator w.image (n * size s.types T + length bytes) at h.allocator_is m.gets in
       name_comes i h.pictured later m.before root m.after m.names_are m.held
-      (subst (λ c. GetsBlock w.image (c * size s.types T + length bytes) at) (sym (count_copies n (default_of s.types T))) gets)
+      (subst (λ c. AllocatesAt w.image (c * size s.types T + length bytes) at) (sym (count_copies n (default_of s.types T))) gets)
 
   pub not_made : (n code : ℕ) → code ≡ answer_number bad_alloc → IsDenied allocator w.image s.types bytes T h.pictured.picture h.pictured.held.index_blocks new n
       → outcome constants i false s ≡ fail a bad_alloc s → ChangesImage constants i h.pictured bad_alloc new

@@ -19,7 +19,7 @@ use Rattle.seg_spec.proofs.Heap.LiveBlockLaws.{times-append}
 use Rattle.seg_spec.proofs.Frozen.PartCountLaws.{owners_after}
 use Rattle.seg_spec.specs.Roots.{Listed, roots_in, with_roots, roots_before, item_of, KeepsPaths}
 use Rattle.seg_spec.specs.Calls.{Refuses}
-use Rattle.seg_spec.specs.Demand.{block_for, after_gives}
+use Rattle.seg_spec.specs.Demand.{block_for, after_gives, GetsBlock}
 use Rattle.seg_spec.specs.Spending.{spent}
 use Rattle.client_spec.specs.declared.table.Operation.{Operation}
 use Rattle.client_spec.specs.declared.table.Role.{Role}
@@ -28,7 +28,7 @@ use Rattle.client_spec.specs.Machine.{◌>>=◌, Origin, Register, State, regist
 use Rattle.client_spec.specs.Answer.{success, bad_alloc, answer_number, path_from, fail, give, proceed}
 use Rattle.client_spec.specs.Effect.{outcome, effect}
 use Rattle.client_spec.specs.Asks.{GrantsAsks, RootGoes}
-use Rattle.client_spec.specs.Ties.{nowhere, GetsBlock, Both, OfFrozen, OfRoot}
+use Rattle.client_spec.specs.Ties.{nowhere, AllocatesAt, Both, OfFrozen, OfRoot}
 use Rattle.client_spec.specs.Shape.{HasShape}
 use Rattle.client_spec.specs.Typed.{Class, RegisterType, RegisterTypes, known, is_owner, owner_needed, known_after, ended, without_class, rule}
 use Rattle.client_spec.specs.Meaning.{InClass}
@@ -51,7 +51,7 @@ use Rattle.client_sim.specs.Acting.{ActsAs, IsRefusedAs}
 use Rattle.client_sim.proofs.Frozen.UnfoldedOperationLaws.{lifted_acts, lifted_refused}
 use Rattle.client_sim.proofs.Instructions.NumberLaws.{with_number, unowned}
 use Rattle.client_sim.proofs.EffectLaws.{acts_so, refuses_with, place_one, place_there}
-use Rattle.client_sim.proofs.GrantLaws.{GrantsBlock, gets_block, grants_spent, denies}
+use Rattle.client_sim.proofs.GrantLaws.{gets_block, grants_spent, denies}
 use Rattle.client_sim.proofs.Places.RootPutLaws.{root_of_pair}
 use Rattle.client_sim.proofs.Objects.ObjectChangeLaws.{shows_rooted, all_paths, other_paths, frame_rooted, objects_rooted}
 use Rattle.client_sim.proofs.Instructions.FindLaws.{OfPicture, of_picture, first_place}
@@ -185,7 +185,7 @@ module _ {others : List Root} {types : Table} {constants : List Constant} (one :
 -- a new object is added to the loose ones, at any index
 pub record JoinsLoose (allocator : ℕ) (old new : List ℕ) (table : Table) (picture : Picture) (T at : ℕ) : Type 0 where
   pub spends : spent allocator (live old) (length old) (block_for (size table T) ∷ []) [] ≡ Some (live new)
-  pub gets : GrantsBlock allocator old (size table T) at
+  pub gets : GetsBlock allocator old (size table T) at
   pub joins : (before after : List Root) → picture.loose ≡ before ++ after → LeavesPicture old new (with_roots picture Listed.loose (before ++ new_object table T at ∷ after)) []
 
 -- a root was freed with its blocks, and with the frozen objects that only it shared; the picture is
@@ -289,13 +289,13 @@ module _ (allocator : ℕ) (constants : List Constant) (role : Role) (a b c : �
       ap (λ u. give a (Register.Owner (default_of s.types u) u) s) t.0 ∙ answer_is types constants ks s h.as_known success a (Register.Owner d T) g.0 in
       let asked : (block_for (size w.table T) ∷ []) ≡ (block_for (size s.types (nat_abs number)) ∷ []) = ap (λ (z : Table). block_for (size z T) ∷ []) h.table_is ∙ ap (λ u. block_for (size s.types u) ∷ []) (sym t.0) in
       let blocks : GrantsAsks constants i h.pictured new = grants_spent constants i h.pictured allocator h.allocator_is (block_for (size w.table T) ∷ []) asked new [] refl (live new) call.spends refl in
-      let gets : GetsBlock w.image (size s.types (nat_abs number)) at =
-      subst (λ n. GetsBlock w.image n at) (ap (λ (z : Table). size z T) h.table_is ∙ ap (size s.types) (sym t.0)) (gets_block allocator w.image (size w.table T) at h.allocator_is call.gets) in
+      let gets : AllocatesAt w.image (size s.types (nat_abs number)) at =
+      subst (λ n. AllocatesAt w.image n at) (ap (λ (z : Table). size z T) h.table_is ∙ ap (size s.types) (sym t.0)) (gets_block allocator w.image (size w.table T) at h.allocator_is call.gets) in
       let at_there : slice_index_or (slice_set w.positions a at) a 0 ≡ at = get_or-set_same w.positions a at 0 (let p = h.registers.positions in omega (arith, p, within)) in
       let gains : GainsOwners constants i w (with_owner w new a place) h.pictured = λ q o. elim (cases_eq a q) [
         | inl same ↦
-            inr (subst (λ r. GetsBlock w.image (size s.types (nat_abs number)) (slice_index_or (slice_set w.positions a at) r 0)) same
-            (subst (GetsBlock w.image (size s.types (nat_abs number))) (sym at_there) gets))
+            inr (subst (λ r. AllocatesAt w.image (size s.types (nat_abs number)) (slice_index_or (slice_set w.positions a at) r 0)) same
+            (subst (AllocatesAt w.image (size s.types (nat_abs number))) (sym at_there) gets))
         | inr far ↦ inl (sym (set_beside w.owns a q true false far) ∙ o)
       ] in
       subst (λ k. Acts others types constants first allocator i success k s w (with_owner w new a place)) (sym good_is)

@@ -12,7 +12,7 @@ use Rattle.seg_spec.specs.Reads.{Place}
 use Rattle.seg_spec.specs.Sound.{Picture, HoldsRoot}
 use Rattle.seg_spec.specs.Roots.{Listed, with_roots}
 use Rattle.seg_spec.specs.Calls.{Refuses}
-use Rattle.seg_spec.specs.Demand.{Ask, block_for}
+use Rattle.seg_spec.specs.Demand.{Ask, block_for, GetsBlock}
 use Rattle.seg_spec.specs.Spending.{spent}
 use Rattle.seg_spec.specs.Frozen.{blocks_by}
 use Rattle.seg_spec.specs.Shared.{names_each, freed}
@@ -24,7 +24,7 @@ use Rattle.client_spec.specs.Machine.{Origin, Path, Register, State, with_unique
 use Rattle.client_spec.specs.Answer.{Answer, Outcome, success, bad_alloc, already_exists, answer_number, path_from, refer, fail, give_count}
 use Rattle.client_spec.specs.Effect.{outcome, effect, add_unique, truth}
 use Rattle.client_spec.specs.Asks.{GrantsAsks, Denies, Asks, Returns, RootGoes, if_absent}
-use Rattle.client_spec.specs.Ties.{nowhere, GetsBlock, KeepsBut, UniquesCome}
+use Rattle.client_spec.specs.Ties.{nowhere, AllocatesAt, KeepsBut, UniquesCome}
 use Rattle.client_spec.specs.Grammar.{IsNumber, IsInstruction}
 use Rattle.client_spec.specs.Shape.{HasShape}
 use Rattle.client_spec.specs.Typed.{Class, RegisterType, RegisterTypes, known, is_owner, sharing, ended, without_class, opens, rule}
@@ -44,7 +44,7 @@ use Rattle.client_sim.proofs.Instructions.NumberLaws.{with_number, quiet, gives_
 use Rattle.client_sim.proofs.EffectLaws.{acts_so, refuses_with, with_place, shows_number, shows_reference, frame_number, frame_reference}
 use Rattle.client_sim.proofs.FrameLaws.{Frame, frame_same, unknown_same}
 use Rattle.client_sim.proofs.Frozen.FrozenPathLaws.{frozen_same_image}
-use Rattle.client_sim.proofs.GrantLaws.{GrantsBlock, gets_block, grants_spent, denies}
+use Rattle.client_sim.proofs.GrantLaws.{gets_block, grants_spent, denies}
 use Rattle.client_sim.proofs.Objects.ObjectChangeLaws.{shows_rooted, pictured_rooted, frame_rooted, objects_rooted}
 use Rattle.client_sim.proofs.Instructions.FindLaws.{OfPicture, of_picture, begins_unique, type_number, unique_found, none_unique, leads_unique, unique_typed}
 use Rattle.client_sim.proofs.EndedReferenceLaws.{LeavesPicture, type_known, ended_shown}
@@ -57,7 +57,7 @@ use Rattle.client_sim.proofs.Objects.NewObjectLaws as new_objects
 pub record JoinsUniques (allocator : ℕ) (old new : List ℕ) (table : Table) (picture : Picture) (T at : ℕ) : Type 0 where
   pub none : root_of_type picture.uniques T ≡ None
   pub spends : spent allocator (live old) (length old) (block_for (size table T) ∷ []) [] ≡ Some (live new)
-  pub gets : GrantsBlock allocator old (size table T) at
+  pub gets : GetsBlock allocator old (size table T) at
   pub before : List Root
   pub after : List Root
   pub uniques_are : picture.uniques ≡ before ++ after
@@ -214,7 +214,7 @@ module _ (allocator : ℕ) (constants : List Constant) (role : Role) (a b c : �
     comes : (operation : Operation) (at : ℕ) → JoinsUniques allocator w.image new w.table h.pictured.picture T at → (t : State) (later : Pictures others t new) → UniquesCome (of operation) h.pictured later
     comes operation at call t later =
         let gets = gets_block allocator w.image (size w.table T) at h.allocator_is call.gets in
-        new_objects.unique_comes (of operation) h.pictured later call.before (new_object w.table T at) call.after call.uniques_are call.becomes.held (subst (λ (z : Table). GetsBlock w.image (size z T) at) h.table_is gets)
+        new_objects.unique_comes (of operation) h.pictured later call.before (new_object w.table T at) call.after call.uniques_are call.becomes.held (subst (λ (z : Table). AllocatesAt w.image (size z T) at) h.table_is gets)
 
     -- the machine does a row that finds the unique object
     found : (operation : Operation) (at : ℕ) → begins_unique h.pictured.picture T ≡ Some at → new ≡ w.image → ((v : Value) → s.uniques T ≡ Some v → GrantsAsks constants (of operation) h.pictured w.image)

@@ -22,7 +22,8 @@ pub null_points : (bytes : List ℕ) (pointer tag room : ℕ) → target bytes p
 null_points bytes pointer tag room null points = absurd (let no : None ≡ Some points.start = sym null ∙ points.names in cc)
 
 -- a value's pointer that is null
-pub null_lacks : (bytes : List ℕ) (table : Table) (at T tag room : ℕ) (form : Form) → LiesAt bytes table (record { at = at; type = T }) → form_at table T ≡ Some form → IsBlockFor table T form (count_at bytes at) tag room → target bytes at ≡ None → LacksBlockAt bytes table at
+pub null_lacks : (bytes : List ℕ) (table : Table) (at T tag room : ℕ) (form : Form) → LiesAt bytes table (record { at = at; type = T })
+    → form_at table T ≡ Some form → IsBlockFor table T form (count_at bytes at) tag room → target bytes at ≡ None → LacksBlockAt bytes table at
 null_lacks bytes table at T tag room form lies f is null = lacks_block tag room (in_value T form lies f is) (null_points bytes at tag room null)
 
 -- the same claim, in other words
@@ -44,7 +45,8 @@ module _ (bytes : List ℕ) (table : Table) (known : Known) (ready : IsReady byt
   points_known_back pointer tag room p = record { start = p.start; names = p.names; is_block = p.is_block; among = omega (arith, p.among, ready.allocated (block_of p.start)) }
 
   -- a claim that was refused
-  pub claim_lacks : (pointer tag room : ℕ) (e : ContentFault) → MayPointTo bytes table pointer tag room → RefusesClaim bytes known pointer tag room e → ((PointsTo bytes pointer tag room → ⊥) → LacksBlockAt bytes table pointer) → LacksAt bytes table e
+  pub claim_lacks : (pointer tag room : ℕ) (e : ContentFault) → MayPointTo bytes table pointer tag room → RefusesClaim bytes known pointer tag room e
+      → ((PointsTo bytes pointer tag room → ⊥) → LacksBlockAt bytes table pointer) → LacksAt bytes table e
   unfolding points_known_back
   claim_lacks pointer tag room Memory may r lacks = tt
   claim_lacks pointer tag room (BadIndex at) may r lacks = absurd r

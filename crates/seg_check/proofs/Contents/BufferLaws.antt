@@ -132,7 +132,8 @@ module _ (bytes : List ℕ) (table : Table) where
   pub block_is : (p tag n m each each' : ℕ) → n ≡ m → each ≡ each' → IsBlock bytes p tag (n * each) → IsBlock bytes p tag (m * each')
   block_is p tag n m each each' e s b = subst (λ x. IsBlock bytes p tag (m * x)) s (subst (λ x. IsBlock bytes p tag (x * each)) e b)
 
-  pub items_advance : (old new : Known) (at T n p : ℕ) (form : Form) (content : Content) → IsReady bytes table old → LiesAt bytes table (record { at = at; type = T }) → IsStringOrVector form → CellsPointTo table T form content → n ≡ count_at bytes at
+  pub items_advance : (old new : Known) (at T n p : ℕ) (form : Form) (content : Content) → IsReady bytes table old
+      → LiesAt bytes table (record { at = at; type = T }) → IsStringOrVector form → CellsPointTo table T form content → n ≡ count_at bytes at
       → ClaimsBlock bytes old new at (word_of content.tag) (n * content.entry.size) (turns_where (has_turns table content.entry.held) p n) p → Advances bytes table old new (record { at = at; type = T } ∷ [])
   unfolding text_opened items_opened
   items_advance old new at T n p Form.i64 content ready lies has by n_is c = absurd has
@@ -228,7 +229,8 @@ module _ (bytes : List ℕ) (table : Table) where
   items_for T n Form.str content has by = let is = by.content_of in (is.tag_is, ap (λ m. n * m) is.size_is ∙ (let one : n * 1 ≡ n = omega arith in one))
   items_for T n (Form.vec U) content has by = let is = by.content_of in (is.tag_is, ap (λ m. n * m) (is.entry_is.size_is ∙ sym (zero_size U)))
 
-  pub items_lack : (known : Known) (at T n : ℕ) (form : Form) (content : Content) (e : ContentFault) → IsReady bytes table known → LiesAt bytes table (record { at = at; type = T }) → IsStringOrVector form → CellsPointTo table T form content → n ≡ count_at bytes at
+  pub items_lack : (known : Known) (at T n : ℕ) (form : Form) (content : Content) (e : ContentFault) → IsReady bytes table known
+      → LiesAt bytes table (record { at = at; type = T }) → IsStringOrVector form → CellsPointTo table T form content → n ≡ count_at bytes at
       → RefusesClaim bytes known at (word_of content.tag) (n * content.entry.size) e → LacksAt bytes table e
   items_lack known at T n form content e ready lies has by n_is r =
       value_lacks bytes table known ready at T (word_of content.tag) (n * content.entry.size) form e lies by.form_is (subst (λ m. IsBlockFor table T form m (word_of content.tag) (n * content.entry.size)) n_is (items_for T n form content has by)) r
@@ -244,7 +246,8 @@ module _ (bytes : List ℕ) (table : Table) where
   items_null at T Form.str lies has f null = null_lacks bytes table at T (tag_of Kind.buffer T) (count_at bytes at) Form.str lies f (refl, refl) null
   items_null at T (Form.vec U) lies has f null = null_lacks bytes table at T (tag_of Kind.buffer T) (count_at bytes at * size table U) (Form.vec U) lies f (refl, refl) null
 
-  pub items_counted_lack : (at T : ℕ) (form : Form) (e : ContentFault) → LiesAt bytes table (record { at = at; type = T }) → IsStringOrVector form → form_at table T ≡ Some form → counted_by at (target bytes at) (count_at bytes at) ≡ Err e → LacksAt bytes table e
+  pub items_counted_lack : (at T : ℕ) (form : Form) (e : ContentFault) → LiesAt bytes table (record { at = at; type = T }) → IsStringOrVector form
+      → form_at table T ≡ Some form → counted_by at (target bytes at) (count_at bytes at) ≡ Err e → LacksAt bytes table e
   items_counted_lack at T form e lies has f is = counted_lacks bytes table at (count_at bytes at) (target bytes at) e is (items_null at T form lies has f)
 
   -- a cell counts no items exactly if its pointer is null

@@ -74,7 +74,8 @@ module _ (bytes : List ℕ) (table : Table) (at T U : ℕ) (content : Content) (
   flat_counted_lack e lies is = counted_lacks bytes table at (count_at bytes at) (target bytes at) e is
       (null_lacks bytes table at T (tag_of Kind.buffer T) (count_at bytes at * (8 + size table U)) (Form.flat_map U) lies by.form_is (refl, refl))
 
-  pub flat_lacks : (known : Known) (n : ℕ) (e : ContentFault) → IsReady bytes table known → LiesAt bytes table (record { at = at; type = T }) → n ≡ count_at bytes at → RefusesClaim bytes known at (word_of content.tag) (n * content.entry.size) e → LacksAt bytes table e
+  pub flat_lacks : (known : Known) (n : ℕ) (e : ContentFault) → IsReady bytes table known → LiesAt bytes table (record { at = at; type = T })
+      → n ≡ count_at bytes at → RefusesClaim bytes known at (word_of content.tag) (n * content.entry.size) e → LacksAt bytes table e
   flat_lacks known n e ready lies n_is r =
       let is = by.content_of in
       value_lacks bytes table known ready at T (word_of content.tag) (n * content.entry.size) (Form.flat_map U) e lies by.form_is (is.tag_is, λ i. n_is i * is.entry_is.size_is i) r

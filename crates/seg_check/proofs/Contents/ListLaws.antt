@@ -137,7 +137,8 @@ module _ (bytes : List ℕ) (table : Table) (old : Known) (ready : IsReady bytes
   ring_opened : List ℕ → Opened
   ring_opened nodes = record { label = Label.seq; blocks = map block_of nodes; parts = values_of bytes table old ready T 8 U nodes }
 
-  pub ring_advance : (now : Known) (first last n : ℕ) (b : Bool) → Walked now first last n b → LiesAt bytes table (record { at = at; type = T }) → target bytes at ≡ Some first → n ≡ count_at bytes at → b ≡ true → target bytes last ≡ Some first → target bytes (first + 4) ≡ Some last
+  pub ring_advance : (now : Known) (first last n : ℕ) (b : Bool) → Walked now first last n b → LiesAt bytes table (record { at = at; type = T })
+      → target bytes at ≡ Some first → n ≡ count_at bytes at → b ≡ true → target bytes last ≡ Some first → target bytes (first + 4) ≡ Some last
       → Advances bytes table old now (record { at = at; type = T } ∷ [])
   unfolding ring_opened
   ring_advance now first last n b w lies named n_is linked next back =
@@ -240,7 +241,9 @@ module _ (bytes : List ℕ) (table : Table) (old : Known) (ready : IsReady bytes
       value_lacks bytes table old ready at T tag each (Form.list U) fault lies f (refl, refl) (refuses_as bs bytes old at word tag (1 * size) each fault e t room r)
 
   -- a node can't be claimed
-  pub node_lacks : (bs : List ℕ) (word size : ℕ) → bs ≡ bytes → word ≡ tag → size ≡ each → (known : Known) → IsReady bytes table known → LiesAt bytes table (record { at = at; type = T }) → (pointer : ℕ) → IsLinkAt bytes tag each at pointer → (e : ContentFault) → RefusesClaim bs known pointer word (1 * size) e → LacksAt bytes table e
+  pub node_lacks : (bs : List ℕ) (word size : ℕ) → bs ≡ bytes → word ≡ tag → size ≡ each → (known : Known) → IsReady bytes table known
+      → LiesAt bytes table (record { at = at; type = T }) → (pointer : ℕ) → IsLinkAt bytes tag each at pointer → (e : ContentFault)
+      → RefusesClaim bs known pointer word (1 * size) e → LacksAt bytes table e
   node_lacks bs word size e t s known is lies pointer link fault r =
       let room : 1 * size ≡ each = (let one : 1 * size ≡ size = omega arith in one) ∙ s in
       link_lacks bytes table known is at pointer T tag each (Form.list U) fault lies f tt (refl, refl) link (refuses_as bs bytes known pointer word tag (1 * size) each fault e t room r)

@@ -133,7 +133,8 @@ module _ (bytes : List ℕ) (table : Table) (old : Known) (ready : IsReady bytes
     traced_live = claimed_live bytes table old ready T map_words U mid t.entered t.claimed
 
     module _ (next : Stage) (less : ℕ) (steady : IsSteady bytes next less) (spent : less + 1 ≡ turns) where
-      pub traced_enter : (new : Known) (pointer p : ℕ) → Proceeds bytes stage next (Some (Enter pointer)) → MovesOn bytes stage next (Enter pointer) → ClaimsBlock bytes mid new pointer tag (1 * each) (turns_where has p 1) p → Traced new next less keys
+      pub traced_enter : (new : Known) (pointer p : ℕ) → Proceeds bytes stage next (Some (Enter pointer)) → MovesOn bytes stage next (Enter pointer)
+          → ClaimsBlock bytes mid new pointer tag (1 * each) (turns_where has p 1) p → Traced new next less keys
       traced_enter new pointer p step moves c =
           let same : step.0 ≡ p = (let named : Some step.0 ≡ Some p = sym step.1 ∙ c.names in cc) in
           record {
@@ -331,7 +332,9 @@ module _ (bytes : List ℕ) (table : Table) (old : Known) (ready : IsReady bytes
   }
 
   -- a node can't be claimed
-  pub node_lacks : (bs : List ℕ) (word size : ℕ) → bs ≡ bytes → word ≡ tag → size ≡ each → (known : Known) → IsReady bytes table known → LiesAt bytes table (record { at = at; type = T }) → (pointer : ℕ) → IsLinkAt bytes tag each at pointer → (e : ContentFault) → RefusesClaim bs known pointer word (1 * size) e → LacksAt bytes table e
+  pub node_lacks : (bs : List ℕ) (word size : ℕ) → bs ≡ bytes → word ≡ tag → size ≡ each → (known : Known) → IsReady bytes table known
+      → LiesAt bytes table (record { at = at; type = T }) → (pointer : ℕ) → IsLinkAt bytes tag each at pointer → (e : ContentFault)
+      → RefusesClaim bs known pointer word (1 * size) e → LacksAt bytes table e
   node_lacks bs word size e t s known is lies pointer link fault r =
       let room : 1 * size ≡ each = (let one : 1 * size ≡ size = omega arith in one) ∙ s in
       link_lacks bytes table known is at pointer T tag each (Form.map U) fault lies f tt (refl, refl) link (refuses_as bs bytes known pointer word tag (1 * size) each fault e t room r)
@@ -341,7 +344,9 @@ module _ (bytes : List ℕ) (table : Table) (old : Known) (ready : IsReady bytes
     traced_ready = claimed_ready bytes table old ready T map_words U mid t.entered t.claimed
 
     -- if the walk can't continue, there is no such tree
-    pub traced_lacks : LiesAt bytes table (record { at = at; type = T }) → (target bytes at ≡ None → ⊥) → ((height : ℕ) (rest entering : List ℕ) → Completes bytes height stage rest entering → height < 30 → length rest + length entering < turns → ⊥) → LacksValueAt bytes table at
+    pub traced_lacks : LiesAt bytes table (record { at = at; type = T }) → (target bytes at ≡ None → ⊥)
+        → ((height : ℕ) (rest entering : List ℕ) → Completes bytes height stage rest entering → height < 30 → length rest + length entering < turns → ⊥)
+        → LacksValueAt bytes table at
     traced_lacks lies names never = in_cell T (Form.map U) lies f (record {
       names = names;
       none = λ tree is_tree red_black counted within ascending.

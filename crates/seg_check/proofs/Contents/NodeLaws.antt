@@ -164,7 +164,9 @@ module _ (bytes : List ℕ) (table : Table) (old : Known) (ready : IsReady bytes
     node_waits true e p reached b some =
         ((node_turn p reached b some, tt), append-nil (places_in bytes table (record { start = p; count = 1 })) ∙ node_places p b ∙ sym (one_type table U true ((p + before) ∷ []) e))
 
-    nodes_wait : (ps : List ℕ) → ((h : ℕ) → 1 ≤ times h (map block_of ps) → IsReachedBlock bytes table h) → AreNodes bytes node_tag node_size ps → Within (map block_of ps) old.unclaimed → AreTurns bytes table (turns_of has ps) × (waiting bytes table (turns_of has ps) ≡ with_cells table (values_of ps))
+    nodes_wait : (ps : List ℕ) → ((h : ℕ) → 1 ≤ times h (map block_of ps) → IsReachedBlock bytes table h) → AreNodes bytes node_tag node_size ps
+        → Within (map block_of ps) old.unclaimed
+        → AreTurns bytes table (turns_of has ps) × (waiting bytes table (turns_of has ps) ≡ with_cells table (values_of ps))
     unfolding turns_of
     nodes_wait [] reached a w = (tt, refl)
     nodes_wait (p ∷ ps) reached a w =
@@ -176,5 +178,6 @@ module _ (bytes : List ℕ) (table : Table) (old : Known) (ready : IsReady bytes
         )
 
     -- the values of the claimed nodes are in the queue, if they may have pointers
-    pub claimed_wait : (now : Known) (nodes : List ℕ) → ((h : ℕ) → 1 ≤ times h (map block_of nodes) → IsReachedBlock bytes table h) → Claimed now nodes → AreTurns bytes table (turns_of has nodes) × (waiting bytes table (turns_of has nodes) ≡ with_cells table (values_of nodes))
+    pub claimed_wait : (now : Known) (nodes : List ℕ) → ((h : ℕ) → 1 ≤ times h (map block_of nodes) → IsReachedBlock bytes table h)
+        → Claimed now nodes → AreTurns bytes table (turns_of has nodes) × (waiting bytes table (turns_of has nodes) ≡ with_cells table (values_of nodes))
     claimed_wait now nodes reached c = nodes_wait nodes reached c.are_nodes (nodes_within now nodes c)

@@ -116,7 +116,8 @@ module _ (bytes : List ℕ) (table : Table) (at T U : ℕ) (f : form_at table T 
   shared_many_lack lies many = in_cell T (Form.shared U) lies f (inl (inl many))
 
   -- the cell doesn't point to a frozen object
-  pub shared_lacks : (known : Known) (e : ContentFault) → IsReady bytes table known → LiesAt bytes table (record { at = at; type = T }) → (e ≡ Memory) ⊎ (e ≡ BadPointer at) → Refutes e (CanName bytes known at tag room) → LacksAt bytes table e
+  pub shared_lacks : (known : Known) (e : ContentFault) → IsReady bytes table known → LiesAt bytes table (record { at = at; type = T })
+      → (e ≡ Memory) ⊎ (e ≡ BadPointer at) → Refutes e (CanName bytes known at tag room) → LacksAt bytes table e
   shared_lacks known e ready lies (inl same) refused = subst (LacksAt bytes table) (sym same) tt
   shared_lacks known e ready lies (inr same) refused =
       let none = subst (λ x. Refutes x (CanName bytes known at tag room)) same refused in

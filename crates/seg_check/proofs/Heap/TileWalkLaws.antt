@@ -211,7 +211,8 @@ module _ (bytes : List ℕ) (table : Table) where
   free_more passed at old new true e same added followed = subst (λ gs. KnowsGaps bytes new gs) (sym (append-nil (free_of passed))) (subst (λ list. KnowsGaps bytes list (free_of passed)) (sym (same refl)) followed)
   free_more passed at old new false e same added followed = added refl followed
 
-  pub walked_more : (at : ℕ) (before : Header) (old new : FreeList) (w : Walked at before old) → at < length bytes → 2 ≤ units_at bytes at → end_at at ≤ length bytes → FollowsHeader (word bytes version_word) table before (header_at bytes at)
+  pub walked_more : (at : ℕ) (before : Header) (old new : FreeList) (w : Walked at before old) → at < length bytes → 2 ≤ units_at bytes at
+      → end_at at ≤ length bytes → FollowsHeader (word bytes version_word) table before (header_at bytes at)
       → (is_live_at bytes at ≡ true → new ≡ old)
       → (is_live_at bytes at ≡ false → (gs : List Span) → KnowsGaps bytes old gs → KnowsGaps bytes new (gs ++ span_of (tile_at at) ∷ []))
       → (more : Walked (end_at at) (header_at bytes at) new) × (more.passed ≡ w.passed ++ tile_at at ∷ [])

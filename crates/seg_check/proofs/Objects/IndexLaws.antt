@@ -283,7 +283,8 @@ module _ (bytes : List ℕ) (table : Table) where
         (subst (λ k. ClaimsBlock bytes old mid index_cell (tag_of Kind.index_buffer 0) (n * k) (turns_where (has_turns table content.entry.held) s n) s) is.size_is
         (subst (λ t. ClaimsBlock bytes old mid index_cell t (n * content.entry.size) (turns_where (has_turns table content.entry.held) s n) s) is.tag_is c))
 
-    pub buffer_lacks : word bytes index_kind_word ≡ 0 → n ≡ count_at bytes index_cell → IsReady bytes table old → (e : ContentFault) → RefusesClaim bytes old index_cell (word_of content.tag) (n * content.entry.size) e → LacksAt bytes table e
+    pub buffer_lacks : word bytes index_kind_word ≡ 0 → n ≡ count_at bytes index_cell → IsReady bytes table old → (e : ContentFault)
+        → RefusesClaim bytes old index_cell (word_of content.tag) (n * content.entry.size) e → LacksAt bytes table e
     buffer_lacks flat counted ready e r =
         must_lack bytes table old ready index_cell (tag_of Kind.index_buffer 0) (count_at bytes index_cell * 8) e (to_entries refl flat)
         (refuses_as bytes bytes old index_cell (word_of content.tag) (tag_of Kind.index_buffer 0) (n * content.entry.size) (count_at bytes index_cell * 8) e refl is.tag_is (λ i. counted i * is.size_is i) r)

@@ -111,7 +111,8 @@ module _ (bytes : List ℕ) (table : Table) (old : Known) (ready : IsReady bytes
     traced_live h some = (ready.blocks h (omega (arith, traced_within h))).0
 
     module _ (next : Stage) (less : ℕ) (steady : IsSteady bytes next less) (spent : less + 1 ≡ turns) where
-      pub traced_enter : (new : Known) (pointer p : ℕ) → Proceeds bytes stage next (Some (Enter pointer)) → MovesOn bytes stage next (Enter pointer) → ClaimsBlock bytes mid new pointer (tag_of Kind.index_node 0) 24 [] p → Traced new next less
+      pub traced_enter : (new : Known) (pointer p : ℕ) → Proceeds bytes stage next (Some (Enter pointer)) → MovesOn bytes stage next (Enter pointer)
+          → ClaimsBlock bytes mid new pointer (tag_of Kind.index_node 0) 24 [] p → Traced new next less
       traced_enter new pointer p step moves c =
           let both : Some p ≡ Some step.0 = sym c.names ∙ step.1 in
           let same : p ≡ step.0 = cc in
@@ -361,7 +362,9 @@ module _ (bytes : List ℕ) (table : Table) (old : Known) (ready : IsReady bytes
         (subst (λ t. ClaimsBlock bytes known new pointer t (1 * content.entry.size) (turns_where (has_turns table content.entry.held) p 1) p) tag_is c))
 
     -- a node can't be claimed
-    pub index_node_lacks : word bytes index_kind_word ≡ 1 → IsReady bytes table known → IsLinkAt bytes (tag_of Kind.index_node 0) 24 index_cell pointer → (e : ContentFault) → RefusesClaim bytes known pointer (word_of content.tag) (1 * content.entry.size) e → LacksAt bytes table e
+    pub index_node_lacks : word bytes index_kind_word ≡ 1 → IsReady bytes table known
+        → IsLinkAt bytes (tag_of Kind.index_node 0) 24 index_cell pointer → (e : ContentFault)
+        → RefusesClaim bytes known pointer (word_of content.tag) (1 * content.entry.size) e → LacksAt bytes table e
     index_node_lacks kind now link e r =
         must_lack bytes table known now pointer (tag_of Kind.index_node 0) 24 e (to_index_node kind link) (refuses_as bytes bytes known pointer (word_of content.tag) (tag_of Kind.index_node 0) (1 * content.entry.size) 24 e refl tag_is one_node r)
 

@@ -1,5 +1,5 @@
--- Two images that are alike are alike again after both got the same new object, and kept all their blocks but
--- those of the index, if the nodes of both indices have the same entries.
+-- Two images that are alike are alike again after both got the same new object, and kept all their blocks
+-- outside the index, if the nodes of both indices have the same entries.
 use Rattle.std.proofs.Common.{◌≡◌, ℕ, ◌⊎◌, inl, inr, List, [], ◌∷◌, ◌++◌, length, refl, sym, ap, ◌∙◌, subst}
 use Rattle.std.specs.List.{AllByRecursion}
 use Rattle.seg_spec.specs.Bytes.{word}

@@ -1,4 +1,4 @@
--- An image that got one more object, and that keeps all blocks that it had but those of its index: its other
+-- An image that got one more object, and that keeps all blocks that it had outside its index: its other
 -- objects and its frozen objects stay, and the values of the new object own no blocks.
 use Rattle.std.proofs.Common.{◌≡◌, ◌≢◌, ℕ, ◌+◌, ◌≤◌, ◌⊎◌, inl, inr, List, [], ◌∷◌, ◌++◌, length, refl, sym, ap, ◌∙◌, subst, arith}
 use Rattle.std.specs.List.{AllByRecursion}
@@ -21,7 +21,7 @@ use Rattle.seg_spec.proofs.Images.RootFrameLaws.{HoldsRoots-kept}
 use Rattle.seg_spec.proofs.Values.PlaceFrameLaws.{each_weaker}
 use Rattle.client_sim.proofs.Names.OnePictureLaws.{plain-one}
 use Rattle.test_definitions.proofs.Rows.ChangedPlaceRowLaws.{cells_of, all_cells, same_members}
-use Rattle.test_definitions.proofs.Runs.EndedImageLaws.{face_one}
+use Rattle.test_definitions.proofs.Frozen.FreedBlockLaws.{face_one}
 use Rattle.test_definitions.proofs.Frozen.FrozenApartLaws.{among_either}
 use Rattle.test_definitions.proofs.Frozen.FrozenOrderLaws.{IsOneOf}
 use Rattle.test_definitions.proofs.Rows.OneFrozenLaws.{frozen-one, among_frozen, is_there}
@@ -61,7 +61,7 @@ frozen_in q f i = (
     let root = root_of_frozen f in
     among_right root q.names (q.uniques ++ (q.loose ++ frozen_roots q)) (among_right root q.uniques (q.loose ++ frozen_roots q) (among_right root q.loose (frozen_roots q) (among_frozen f q.frozen i))))
 
--- ---- objects of an image that keeps all blocks but those of its index
+-- ---- objects of an image that keeps all blocks outside its index
 
 module _ (old new : List ℕ) (was now : Picture) (held : IsHeld old was) (held_now : IsHeld new now) (tables : now.table ≡ was.table)
     (kept : (h : ℕ) → 1 ≤ times h (positions (live old)) → times h held.index_blocks ≡ 0 → KeepsBlock old new h) where
@@ -97,7 +97,7 @@ nothing_there : (xs : List ℕ) → ((h : ℕ) → times h xs ≡ 0) → xs ≡ 
 nothing_there [] f = refl
 nothing_there (x ∷ xs) f = absurd (omega (arith, f x, times-same x xs))
 
--- The image keeps its blocks but those of its index, and its objects. Each new object lies in a block of its
+-- The image keeps its blocks outside its index, and its objects. Each new object lies in a block of its
 -- own, and the index has as many blocks as it needs.
 pub record Grows (old new : List ℕ) (was now : Picture) (index : List ℕ) (News : Root → Type 0) : Type 0 where
   pub tables : now.table ≡ was.table

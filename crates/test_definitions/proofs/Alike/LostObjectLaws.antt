@@ -31,7 +31,7 @@ use Rattle.client_spec.specs.Pictures.{Pictures}
 use Rattle.client_spec.specs.Ties.{places_of}
 use Rattle.client_sim.proofs.Names.OnePictureLaws.{plain-one}
 use Rattle.test_definitions.proofs.Alike.AlikeRootLaws.{of_type}
-use Rattle.test_definitions.proofs.Runs.EndedImageLaws.{roots_one, frozen_by, face_one, gives_times, parted, its_fewer, owned_by, at_one, at_times}
+use Rattle.test_definitions.proofs.Frozen.FreedBlockLaws.{roots_one, frozen_by, face_one, gives_times, parted, its_fewer, owned_by, at_one, at_times}
 use Rattle.test_definitions.proofs.Frozen.FrozenApartLaws.{FrozenApart, frozen_apart}
 use Rattle.test_definitions.proofs.Frozen.FrozenContentLaws.{same_content, same_blocks}
 use Rattle.test_definitions.proofs.Frozen.FrozenOrderLaws.{IsOneOf, each_of}

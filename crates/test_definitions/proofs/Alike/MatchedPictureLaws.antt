@@ -51,7 +51,7 @@ some_too None u e a f = cc
 some_too (Some x) None e a f = cc
 some_too (Some x) (Some b) e a f = (b, refl)
 
--- the objects of registers, if those of each register are the same
+-- the objects of registers, if each register has the same object
 owned_same : (xs ys : List Register) (rs os : List Root) → owners ys ≡ owners xs → AreOwned xs rs → AreOwned ys os → ((r : ℕ) (a b : Root) → root_of_register xs rs r ≡ Some a → root_of_register ys os r ≡ Some b → a ≡ b) → rs ≡ os
 owned_same [] [] [] [] e f g same = refl
 owned_same [] [] (a ∷ rs) os e f g same = absurd f

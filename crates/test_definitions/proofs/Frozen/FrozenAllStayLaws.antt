@@ -13,7 +13,7 @@ use Rattle.client_spec.specs.Machine.{Path, State, at_origin}
 use Rattle.client_spec.specs.Pictures.{Pictures, LeadsInImage}
 use Rattle.client_spec.specs.Ties.{spot_of, KeepsBut, FrozenKept}
 use Rattle.test_definitions.proofs.ValueChanges.ChangedPlaceLaws.{KeepsOwners, beside_frozen, its_owned, its_within, once}
-use Rattle.test_definitions.proofs.Runs.EndedImageLaws.{frozen_by, its_fewer}
+use Rattle.test_definitions.proofs.Frozen.FreedBlockLaws.{frozen_by, its_fewer}
 use Rattle.test_definitions.proofs.Frozen.FrozenOrderLaws.{IsOneOf, each_of}
 use Rattle.test_definitions.proofs.Rows.OneFrozenLaws.{of_frozen, is_there}
 use Rattle.test_definitions.proofs.Frozen.ReachedFrozenLaws.{StandsAt}

@@ -23,7 +23,7 @@ use Rattle.client_spec.specs.Pictures.{Pictures, LeadsInImage}
 use Rattle.test_definitions.proofs.ValueChanges.ChangedPlaceLaws.{KeepsOwners, OtherRoot, among_one, first_owners, last_owners, first_owner, last_owner, first_other, last_other, own_root_then, holds_one}
 use Rattle.test_definitions.proofs.ValueChanges.ChangedPlaceLaws.{owners_with_value}
 use Rattle.test_definitions.proofs.Rows.ChangedPlaceRowLaws.{Beside, cells_of, all_cells, items_faced, content, there_before}
-use Rattle.test_definitions.proofs.Runs.EndedImageLaws.{at_one, its_fewer}
+use Rattle.test_definitions.proofs.Frozen.FreedBlockLaws.{at_one, its_fewer}
 use Rattle.test_definitions.proofs.Frozen.FrozenApartLaws.{owner_in_roots}
 use Rattle.test_definitions.proofs.Frozen.FrozenOrderLaws.{IsOneOf, each_of}
 use Rattle.test_definitions.proofs.Frozen.FrozenStayLaws.{left_found}

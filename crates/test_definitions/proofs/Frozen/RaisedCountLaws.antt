@@ -4,7 +4,7 @@ use Rattle.seg_spec.specs.Reads.{Place}
 use Rattle.seg_spec.specs.Frozen.{Frozen, blocks_by}
 use Rattle.seg_spec.specs.Sound.{times}
 use Rattle.seg_spec.specs.Shared.{with_count, raised, raised_by}
-use Rattle.test_definitions.proofs.Runs.EndedImageLaws.{at_times}
+use Rattle.test_definitions.proofs.Frozen.FreedBlockLaws.{at_times}
 use Rattle.test_definitions.proofs.Frozen.FrozenOrderLaws.{IsOneOf}
 use Rattle.test_definitions.proofs.Frozen.FrozenReleasedLaws.{Based, each_based}
 use Rattle.test_definitions.proofs.Rows.OneFrozenLaws.{was_raised}

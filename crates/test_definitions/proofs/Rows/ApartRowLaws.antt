@@ -26,7 +26,7 @@ use Rattle.client_spec.specs.Ties.{FrozenKept}
 use Rattle.test_definitions.proofs.Alike.AlikeChangeLaws.{all_fit}
 use Rattle.test_definitions.proofs.ValueChanges.ApartPlaceLaws.{KeepsApart, each_staying, tag_stays, now_there, now_below}
 use Rattle.test_definitions.proofs.Rows.ChangedPlaceRowLaws.{CellsWithin, all_cells, cells_of, node_tags, of_index, same_members}
-use Rattle.test_definitions.proofs.Runs.EndedImageLaws.{frozen_by, its_fewer}
+use Rattle.test_definitions.proofs.Frozen.FreedBlockLaws.{frozen_by, its_fewer}
 use Rattle.test_definitions.proofs.Frozen.FrozenApartLaws.{frozen_apart, owner_in_roots}
 use Rattle.test_definitions.proofs.Frozen.FrozenOrderLaws.{IsOneOf, each_of}
 use Rattle.test_definitions.proofs.Frozen.FrozenStayLaws.{SameContent}
@@ -138,7 +138,7 @@ module _ {others : List Root} {s s' : State} {old : List ℕ} (p : Pictures othe
         same_count = ap count pa.values_are ∙ sym (ap count pc.values_are);
       }
 
-  -- its shared cells point to objects of a list that has the frozen objects that there were, if those of the place's
+  -- its shared cells point to objects of a list that has the frozen objects that there were, if the cells of the place's
   -- new value do
   pub cells_within : (n : ℕ) (fs : List Frozen) → ((z : Place) → IsBelow (word old next_word) p.picture.frozen z → IsBelow n fs z)
       → ((w : Value) (news : List ℕ) → Holds new p.picture.table place w news → AllByRecursion (IsBelow n fs) (names_in w)) → (c a : Root) → Stays c → HasFace c a → IsAmong a (owners_in p'.picture)

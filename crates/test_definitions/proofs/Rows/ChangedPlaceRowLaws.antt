@@ -35,7 +35,7 @@ use Rattle.test_definitions.proofs.ValueChanges.AroundPersistLaws.{surrounded_le
 use Rattle.test_definitions.proofs.Alike.AlikeRootLaws.{of_type}
 use Rattle.test_definitions.proofs.ValueChanges.BlockKindLaws.{OfValues, nodes_tagged, Tagged, roots_tagged}
 use Rattle.test_definitions.proofs.ValueChanges.ChangedPlaceLaws.{KeepsOwners, each_owner, own_root, own_root_then, own_below, within, index_kept, index_beside}
-use Rattle.test_definitions.proofs.Runs.EndedImageLaws.{frozen_by, its_fewer}
+use Rattle.test_definitions.proofs.Frozen.FreedBlockLaws.{frozen_by, its_fewer}
 use Rattle.test_definitions.proofs.Frozen.FrozenApartLaws.{frozen_apart, among_either, owner_in_roots}
 use Rattle.test_definitions.proofs.Frozen.FrozenContentLaws.{same_blocks}
 use Rattle.test_definitions.proofs.Frozen.FrozenOrderLaws.{IsOneOf, each_of}

@@ -18,7 +18,7 @@ use Rattle.seg_spec.specs.Demand.{Ask, block_for, growth, growth_if_needed, afte
 use Rattle.seg_spec.specs.Spending.{entry_asks, old_of}
 use Rattle.seg_spec.specs.Spending as spending
 use Rattle.seg_spec.proofs.Heap.LiveBlockLaws.{times-append, times-same, times-more, times-without}
-use Rattle.client_spec.specs.Ties.{GetsBlock}
+use Rattle.client_spec.specs.Ties.{AllocatesAt}
 use Rattle.test_definitions.proofs.Alike.IndexAlikeLaws.{index_long, index_is_long}
 use Rattle.test_definitions.proofs.Steps.TextStepLaws.{Grants, by_ask}
 
@@ -97,7 +97,7 @@ module _ (old new : List ℕ) (p : Picture) (held : IsHeld old p) where
   first_granted at bs m e = by_ask (word old allocator_word) (live old) (length old) None (block_for m) refl (fresh (block_of at) bs) e
 
   pub room_made : (m at : ℕ) (asks : List Ask) (gives : List ℕ) (blocks : List Span) → asks ≡ block_for m ∷ entry_asks (word old index_kind_word) old → gives ≡ []
-      → after_asks (word old allocator_word) (live old) (length old) asks ≡ Some blocks → live new ≡ after_gives blocks (spending.replaced (word old allocator_word) (live old) (length old) asks ++ gives) → GetsBlock old m at
+      → after_asks (word old allocator_word) (live old) (length old) asks ≡ Some blocks → live new ≡ after_gives blocks (spending.replaced (word old allocator_word) (live old) (length old) asks ++ gives) → AllocatesAt old m at
       → MakesRoom old new p held.index_blocks at
   room_made m at asks gives blocks asks_are gives_are granted left gets =
       by (word old index_kind_word) refl held.laid_out.names.index held.laid_out.names.opens held.laid_out.names.blocks_are (index_is_long old p held) after_first left_then

@@ -13,7 +13,7 @@ use Rattle.client_spec.specs.declared.table.Operation.{Operation}
 use Rattle.client_spec.specs.Syntax.{Constant, Instruction}
 use Rattle.client_spec.specs.Answer.{Answer}
 use Rattle.client_spec.specs.Pictures.{root_of_register}
-use Rattle.client_spec.specs.Ties.{GetsBlock, NamesCome, ObjectsComeBy, ComesBy}
+use Rattle.client_spec.specs.Ties.{AllocatesAt, NamesCome, ObjectsComeBy, ComesBy}
 use Rattle.client_spec.specs.OnImages.{Move, Situation, RowOn}
 use Rattle.client_spec.proofs.TypedStates.StateLaws.{same_name_is}
 use Rattle.client_sim.proofs.Objects.FirstRootLaws.{is_named, named_first, first_split}
@@ -22,7 +22,7 @@ use Rattle.test_definitions.proofs.Rows.OneState.{as_pictured}
 use Rattle.test_definitions.proofs.Rows.OneReturnLaws.{allocators}
 
 -- requests of one size get one block
-pub one_block : (others : List Root) (places first second : List ℕ) → AreAlike others places first second → (n a b : ℕ) → GetsBlock first n a → GetsBlock second n b → block_of b ≡ block_of a
+pub one_block : (others : List Root) (places first second : List ℕ) → AreAlike others places first second → (n a b : ℕ) → AllocatesAt first n a → AllocatesAt second n b → block_of b ≡ block_of a
 one_block others places first second alike n a b x y =
     let same : after_ask (word second allocator_word) (live second) (length second) (block_for n) ≡ after_ask (word first allocator_word) (live first) (length first) (block_for n) =
     λ i. after_ask (allocators alike i) (alike.live_same i) (alike.length_same i) (block_for n) in
@@ -62,12 +62,12 @@ module _ (constants : List Constant) (others : List Root) (moves : List Move) (i
       ∙ ap (λ n. count a.values * size r.before.plain.types a.type + length n)
       (name_is q.after.pictured.picture.names name b some_too ∙ sym (name_is r.after.pictured.picture.names name a some)) in
       one_block others x.owned x.image z.image alike (count a.values * size r.before.plain.types a.type + length a.name) a.at b.at (come.0 name a none some)
-      (subst (λ n. GetsBlock z.image n b.at) room (come.1 name b none_too some_too))
+      (subst (λ n. AllocatesAt z.image n b.at) room (come.1 name b none_too some_too))
 
   pub owner_in_block : i.operation ≡ Operation.New → (register : ℕ) (a b : Root) → root_of_register r.before.plain.registers r.before.pictured.owned register ≡ None
       → root_of_register q.before.plain.registers q.before.pictured.owned register ≡ None → root_of_register r.after.plain.registers r.after.pictured.owned register ≡ Some a
       → root_of_register q.after.plain.registers q.after.pictured.owned register ≡ Some b → block_of b.at ≡ block_of a.at
   owner_in_block is register a b none none_too some some_too =
-      let one : GetsBlock x.image (size r.before.plain.types (nat_abs i.number)) a.at = subst (λ o. ComesBy constants i r.before.pictured o a.at) is (r.owners_come register a none some) in
-      let two : GetsBlock z.image (size q.before.plain.types (nat_abs i.number)) b.at = subst (λ o. ComesBy constants i q.before.pictured o b.at) is (q.owners_come register b none_too some_too) in
-      one_block others x.owned x.image z.image alike (size r.before.plain.types (nat_abs i.number)) a.at b.at one (subst (λ t. GetsBlock z.image (size t (nat_abs i.number)) b.at) types_same two)
+      let one : AllocatesAt x.image (size r.before.plain.types (nat_abs i.number)) a.at = subst (λ o. ComesBy constants i r.before.pictured o a.at) is (r.owners_come register a none some) in
+      let two : AllocatesAt z.image (size q.before.plain.types (nat_abs i.number)) b.at = subst (λ o. ComesBy constants i q.before.pictured o b.at) is (q.owners_come register b none_too some_too) in
+      one_block others x.owned x.image z.image alike (size r.before.plain.types (nat_abs i.number)) a.at b.at one (subst (λ t. AllocatesAt z.image (size t (nat_abs i.number)) b.at) types_same two)

@@ -1,4 +1,4 @@
--- A row that makes an object keeps all blocks but those of the index, and gets one for the object.
+-- A row that makes an object keeps all blocks outside the index, and gets one for the object.
 use Rattle.std.proofs.Common.{◌≡◌, ℕ, ◌+◌, ◌≤◌, ◌⊎◌, inl, inr, true, false, List, [], ◌∷◌, ◌++◌, length, Option, Some, None, option_map, refl, sym, ap, ◌∙◌, subst, arith}
 use Rattle.std.specs.Prelude.{is_some, option_and_then}
 use Rattle.std.specs.Option.{option_map_or}
@@ -19,7 +19,7 @@ use Rattle.client_spec.specs.Syntax.{Constant, Instruction}
 use Rattle.client_spec.specs.Answer.{Answer}
 use Rattle.client_spec.specs.Machine.{State}
 use Rattle.client_spec.specs.Pictures.{Pictures}
-use Rattle.client_spec.specs.Ties.{Spot, nowhere, places_of, GetsBlock, TouchesBy, Changes}
+use Rattle.client_spec.specs.Ties.{Spot, nowhere, places_of, AllocatesAt, TouchesBy, Changes}
 use Rattle.client_spec.specs.OnImages.{Move, Situation, RowOn}
 use Rattle.test_definitions.proofs.Alike.AlikeRootLaws.{of_type}
 use Rattle.test_definitions.proofs.Alike.GrownImageLaws.{faced_one, placed_one}
@@ -44,7 +44,7 @@ taken_counts bs new u g (Some x) e h =
     ap (λ cs. times h (positions cs)) (sym is) ∙ times-with_block h (record { at = x.at; units = granted x.units u }) bs ∙ ap (λ a. times h (a ∷ positions bs)) at_is
 
 pub granted_lives : (old new : List ℕ) (n at : ℕ) (asks : List Ask) (gives : List ℕ) (blocks : List Span) → asks ≡ block_for n ∷ [] → gives ≡ [] → after_asks (word old allocator_word) (live old) (length old) asks ≡ Some blocks
-    → live new ≡ after_gives blocks (spending.replaced (word old allocator_word) (live old) (length old) asks ++ gives) → GetsBlock old n at
+    → live new ≡ after_gives blocks (spending.replaced (word old allocator_word) (live old) (length old) asks ++ gives) → AllocatesAt old n at
     → (h : ℕ) → times h (positions (live new)) ≡ times h (positions (live old)) + times h (block_of at ∷ [])
 granted_lives old new n at asks gives blocks asks_are gives_are granted_is left gets h =
     let A = word old allocator_word in
@@ -94,7 +94,7 @@ module _ (constants : List Constant) (others : List Root) (moves : List Move) (i
           let t = touches c.spot c.own c.touches in
           whole x.image y.image h (subst (λ (z : Spot). KeepsBlockAround x.image y.image z.at z.bytes h) t.0 (c.kept h some t.1))
 
--- an image that keeps all blocks but those of its index
+-- an image that keeps all blocks outside its index
 module _ (constants : List Constant) (others : List Root) (moves : List Move) (i : Instruction) (x y : Situation) (answer : Answer) (r : RowOn constants others moves i x answer y)
     (kept : (h : ℕ) → 1 ≤ times h (positions (live x.image)) → times h r.before.pictured.held.index_blocks ≡ 0 → KeepsBlock x.image y.image h) where
   abbrev p : Pictures others r.before.plain x.image

@@ -37,7 +37,7 @@ use Rattle.test_definitions.proofs.ValueChanges.ApartPlaceLaws.{KeepsApart, inde
 use Rattle.test_definitions.proofs.Rows.ApartRowLaws.{nodes_before, plain_face, cells_within}
 use Rattle.test_definitions.proofs.ValueChanges.ChangedPlaceLaws.{KeepsOwners, own_owner, its_within, its_owned, holds_one, apart as place_apart}
 use Rattle.test_definitions.proofs.Rows.ChangedPlaceRowLaws.{cells_of}
-use Rattle.test_definitions.proofs.Runs.EndedImageLaws.{frozen_by}
+use Rattle.test_definitions.proofs.Frozen.FreedBlockLaws.{frozen_by}
 use Rattle.test_definitions.proofs.Frozen.FrozenApartLaws.{FrozenApart, frozen_apart, among_either}
 use Rattle.test_definitions.proofs.Alike.ListedRootLaws.{named_as_many}
 use Rattle.test_definitions.proofs.Steps.MovedStepLaws.{Moving, moving, named_was, unique_was, Stay, MovedSide, in_names, in_uniques, others_in, owned_in, owned_plain, each_owned, same_face}

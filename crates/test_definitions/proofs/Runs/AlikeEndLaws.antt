@@ -31,7 +31,7 @@ use Rattle.client_spec.specs.Trees.{unfolded_object}
 use Rattle.test_definitions.specs.Alike.{AlikeRoot, AreAlike, StandAlike}
 use Rattle.test_definitions.proofs.ValueChanges.AlikePlaceLaws.{each_alike}
 use Rattle.test_definitions.proofs.Alike.AlikeRootLaws.{of_type}
-use Rattle.test_definitions.proofs.Runs.EndedImageLaws.{frozen_by}
+use Rattle.test_definitions.proofs.Frozen.FreedBlockLaws.{frozen_by}
 use Rattle.test_definitions.proofs.Frozen.FrozenApartLaws.{frozen_apart}
 use Rattle.test_definitions.proofs.Frozen.FrozenOrderLaws.{IsOneOf, each_of}
 use Rattle.test_definitions.proofs.Alike.GrownImageLaws.{frozen_in, owner_in}

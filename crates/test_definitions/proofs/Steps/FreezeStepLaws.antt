@@ -30,7 +30,7 @@ use Rattle.client_spec.specs.Answer.{Answer, Outcome, success, bad_alloc, answer
 use Rattle.client_spec.specs.Effect.{effect}
 use Rattle.client_spec.specs.Pictures.{root_of_register, Pictures, meaning_in}
 use Rattle.client_spec.specs.Asks.{AsksBy, ReturnsBy, ChangesOnSuccess, GrantsAsks}
-use Rattle.client_spec.specs.Ties.{places_of, object_at, TouchesBy, FreezesOwned, GetsBlock, ComesBy, keeps_image}
+use Rattle.client_spec.specs.Ties.{places_of, object_at, TouchesBy, FreezesOwned, AllocatesAt, ComesBy, keeps_image}
 use Rattle.client_spec.specs.OnImages.{Move, Situation, RowWith, RowOn}
 use Rattle.client_spec.proofs.TypedStates.StateLaws.{both_true, register_set_same}
 use Rattle.client_spec.proofs.TypedStates.ValueLaws.{Some_inj, bind_some}
@@ -41,7 +41,7 @@ use Rattle.test_definitions.proofs.Rows.AnsweredRowLaws.{from_answer}
 use Rattle.test_definitions.proofs.Rows.ApartRowLaws.{content_stays, frozen_within, frozen_fall}
 use Rattle.test_definitions.proofs.Steps.ApartStepLaws.{order, was_alike, content_both, opens_both}
 use Rattle.test_definitions.proofs.ValueChanges.DefaultCellLaws.{one_names}
-use Rattle.test_definitions.proofs.Runs.EndedImageLaws.{frozen_by, gives_times, parted}
+use Rattle.test_definitions.proofs.Frozen.FreedBlockLaws.{frozen_by, gives_times, parted}
 use Rattle.test_definitions.proofs.Frozen.FrozenApartLaws.{frozen_apart, owner_in_roots}
 use Rattle.test_definitions.proofs.Frozen.FrozenOrderLaws.{IsOneOf}
 use Rattle.test_definitions.proofs.Frozen.FrozenStayLaws.{SameContent}
@@ -142,7 +142,7 @@ record FreezeRow (constants : List Constant) (others : List Root) (i : Instructi
   gone_is : side.gone ≡ Some root
   payload : ℕ
   points_to : target new place.at ≡ Some payload
-  gets_block : GetsBlock bytes (frozen_words + size s.types root.type) payload
+  gets_block : AllocatesAt bytes (frozen_words + size s.types root.type) payload
   moves : Persists bytes new s.types (object_at root.at root.type) (object_at (payload + frozen_words) root.type)
   value : Value
   values_are : root.values ≡ cons value nil
@@ -376,7 +376,7 @@ module _ (constants : List Constant) (others : List Root) (moves : List Move) (i
     gone_is : side.gone ≡ Some root
     payload : ℕ
     points_to : target w.image place.at ≡ Some payload
-    gets_block : GetsBlock z.image (frozen_words + size r.before.plain.types root.type) payload
+    gets_block : AllocatesAt z.image (frozen_words + size r.before.plain.types root.type) payload
     moves_to : Persists z.image w.image r.before.plain.types (object_at root.at root.type) (object_at (payload + frozen_words) root.type)
     value : Value
     values_are : root.values ≡ cons value nil

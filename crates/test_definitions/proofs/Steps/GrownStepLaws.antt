@@ -39,7 +39,7 @@ regrown old new was other now index index_too News same loose blocks g =
 
 module _ (constants : List Constant) (others : List Root) (moves : List Move) (i : Instruction) (x z y w : Situation) (answer : Answer) (stand : StandAlike others x z) (r : RowOn constants others moves i x answer y)
     (q : RowOn constants others moves i z answer w) where
-  -- the pictures before the rows are those of the alike images
+  -- the alike images have the pictures before the rows
   mine : SamePicture r.before.pictured.picture stand.images.picture
   mine = Held-one x.image r.before.pictured.picture stand.images.picture r.before.pictured.held stand.images.held
 

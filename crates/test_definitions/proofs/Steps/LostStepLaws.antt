@@ -28,7 +28,7 @@ use Rattle.client_spec.specs.Ties.{Spot, nowhere, places_of, Both, OfRoot, OfFro
 use Rattle.client_spec.specs.OnImages.{Move, Situation, RowOn}
 use Rattle.test_definitions.specs.Alike.{AreAlike, StandAlike, StaysAlike}
 use Rattle.test_definitions.proofs.ValueChanges.ChangedPlaceLaws.{holds_one}
-use Rattle.test_definitions.proofs.Runs.EndedImageLaws.{frozen_by}
+use Rattle.test_definitions.proofs.Frozen.FreedBlockLaws.{frozen_by}
 use Rattle.test_definitions.proofs.Frozen.FrozenApartLaws.{frozen_apart}
 use Rattle.test_definitions.proofs.Frozen.FrozenOrderLaws.{IsOneOf, each_of}
 use Rattle.test_definitions.proofs.Alike.IndexAlikeLaws.{whole_nodes}

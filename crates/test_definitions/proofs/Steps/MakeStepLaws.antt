@@ -21,7 +21,7 @@ use Rattle.client_spec.specs.Answer.{Answer, success, bad_alloc, object_count, t
 use Rattle.client_spec.specs.Trees.{unfolded_object, unfolded_state}
 use Rattle.client_spec.specs.Pictures.{object_of, Pictures, meaning_in}
 use Rattle.client_spec.specs.Asks.{if_absent, name_operand, new_count, named_asks, AsksBy, ReturnsBy, GrantsAsks, ChangesOnSuccess}
-use Rattle.client_spec.specs.Ties.{Spot, nowhere, keeps_image, TouchesBy, KeepsBy, GetsBlock, NamesCome, ObjectsComeBy}
+use Rattle.client_spec.specs.Ties.{Spot, nowhere, keeps_image, TouchesBy, KeepsBy, AllocatesAt, NamesCome, ObjectsComeBy}
 use Rattle.client_spec.specs.OnImages.{Move, Situation, RowWith, RowOn}
 use Rattle.client_spec.proofs.TypedStates.StateLaws.{same_name_is, name_there}
 use Rattle.client_spec.proofs.TypedStates.ValueLaws.{Some_inj}
@@ -77,7 +77,7 @@ module _ (constants : List Constant) (others : List Root) (moves : List Move) (i
   owned_stay_same = owned_same constants others moves i x y answer r kept
       (r.owned_after ∙ owned_kept constants others moves i x y answer r (by_either (λ o. moves_owners o answer ≡ false) i.operation which refl refl) ∙ sym r.owned_before)
 
-  -- a name that the state has as before
+  -- the same object for a name that the row leaves
   same_if : (name : List ℕ) → y.state.names name ≡ x.state.names name → root_named r.after.pictured.picture.names name ≡ root_named r.before.pictured.picture.names name
   same_if name e = same_named constants others moves i x y answer r kept name
       (sym (named_there constants others moves i x y answer r y.state y.image r.after name) ∙ ap (λ (o : Option Object). is_some o) e ∙ named_there constants others moves i x y answer r x.state x.image r.before name)
@@ -233,11 +233,11 @@ module _ (constants : List Constant) (others : List Root) (moves : List Move) (i
       ∙ ap (λ o. unwrap_or (o >>= λ n. Some (if_absent (s.names m.name) (object_asks x.image s.types (type_operand i.number) n m.name))) []) count_plain
       ∙ ap (λ (o : Option Object). if_absent o (object_asks x.image s.types (type_operand i.number) m.n m.name)) none
 
-  gets : GetsBlock x.image (m.n * size r.before.plain.types (type_operand i.number) + length m.name) made_object.object.at
+  gets : AllocatesAt x.image (m.n * size r.before.plain.types (type_operand i.number) + length m.name) made_object.object.at
   gets =
       let come = by_either (λ o. ObjectsComeBy i r.before.pictured r.after.pictured o → NamesCome i r.before.pictured r.after.pictured) i.operation which (λ k. k) (λ k. k) r.objects_come in
       let many : count made_object.object.values ≡ m.n = ap count made_object.values_are ∙ count_copies m.n (default_of x.state.types (type_operand i.number)) in
-      subst (λ k. GetsBlock x.image k made_object.object.at) (λ j. many j * size r.before.plain.types (made_object.type_is j) + length (made_object.named j)) (come m.name made_object.object absent made_object.found)
+      subst (λ k. AllocatesAt x.image k made_object.object.at) (λ j. many j * size r.before.plain.types (made_object.type_is j) + length (made_object.named j)) (come m.name made_object.object absent made_object.found)
 
   room : MakesRoom x.image y.image r.before.pictured.picture r.before.pictured.held.index_blocks made_object.object.at
   room = room_made x.image y.image r.before.pictured.picture r.before.pictured.held (m.n * size r.before.plain.types (type_operand i.number) + length m.name) made_object.object.at grants.asks grants.gives grants.blocks asks_are gives_are

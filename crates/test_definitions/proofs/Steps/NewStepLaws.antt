@@ -21,7 +21,7 @@ use Rattle.client_spec.specs.Answer.{Answer, Outcome, success, bad_alloc, answer
 use Rattle.client_spec.specs.Effect.{effect}
 use Rattle.client_spec.specs.Pictures.{root_of_register, Pictures, PicturesTrees, meaning_in}
 use Rattle.client_spec.specs.Asks.{AsksBy, ReturnsBy, GrantsAsks, ChangesOnSuccess}
-use Rattle.client_spec.specs.Ties.{Spot, nowhere, places_of, keeps_image, TouchesBy, ComesBy, GetsBlock}
+use Rattle.client_spec.specs.Ties.{Spot, nowhere, places_of, keeps_image, TouchesBy, ComesBy, AllocatesAt}
 use Rattle.client_spec.specs.OnImages.{Move, Situation, RowWith, RowOn}
 use Rattle.client_sim.proofs.Names.OnePictureLaws.{plain-one}
 use Rattle.test_definitions.specs.Alike.{StandAlike, StaysAlike}
@@ -130,7 +130,7 @@ module _ (constants : List Constant) (others : List Root) (moves : List Move) (i
     no_cells : names_each d.values ≡ []
     above : 16 ≤ d.at
     payload : payload_of d ≡ d.at
-    gets : GetsBlock x.image (size row.before.plain.types T) d.at
+    gets : AllocatesAt x.image (size row.before.plain.types T) d.at
     is_in : IsAmong d (owners_in row.after.pictured.picture)
 
   new_one : (r : ℕ) (d : Root) → before r ≡ None → after r ≡ Some d → NewOne d
@@ -281,7 +281,7 @@ module _ (constants : List Constant) (others : List Root) (moves : List Move) (i
       let plains = plain_before constants others moves i x z y w success success stand r q in
       let k = new_one constants others moves i is x y r n a none some in
       let m = new_one constants others moves i is z w q n b (sym (before_same n) ∙ none) some_too in
-      let gets_too = subst (λ (s : State). GetsBlock z.image (size s.types (nat_abs i.number)) b.at) (sym plains) m.gets in
+      let gets_too = subst (λ (s : State). AllocatesAt z.image (size s.types (nat_abs i.number)) b.at) (sym plains) m.gets in
       let block = one_block others x.owned x.image z.image stand.images (size r.before.plain.types (nat_abs i.number)) a.at b.at k.gets gets_too in
       root_one b a (m.plain.no_name ∙ sym k.plain.no_name) (m.plain.no_words ∙ sym k.plain.no_words) (omega (arith, block, k.above, m.above)) (m.type_is ∙ sym k.type_is)
       (m.values_are ∙ ap (λ (s : State). cons (default_of s.types (nat_abs i.number)) nil) stand.states ∙ sym k.values_are)

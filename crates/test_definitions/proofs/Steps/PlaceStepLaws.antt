@@ -28,7 +28,7 @@ use Rattle.test_definitions.specs.Alike.{AreAlike}
 use Rattle.test_definitions.proofs.ValueChanges.AlikePlaceLaws.{holds_alike}
 use Rattle.test_definitions.proofs.Alike.AlikeRootLaws.{of_type}
 use Rattle.test_definitions.proofs.ValueChanges.ChangedPlaceLaws.{KeepsOwners}
-use Rattle.test_definitions.proofs.Runs.EndedImageLaws.{frozen_by}
+use Rattle.test_definitions.proofs.Frozen.FreedBlockLaws.{frozen_by}
 use Rattle.test_definitions.proofs.Frozen.FrozenApartLaws.{frozen_apart}
 use Rattle.test_definitions.proofs.Rows.OnePlaceLaws.{RefersTo, led_in_both, led_one}
 use Rattle.test_definitions.proofs.Rows.OwningRegisterLaws.{owners, moves_owners, changes_names, changes_uniques, unfolded_owners, row_keeps}

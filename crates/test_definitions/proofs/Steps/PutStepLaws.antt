@@ -35,7 +35,7 @@ use Rattle.test_definitions.proofs.Alike.AlikeRootLaws.{both, of_register}
 use Rattle.test_definitions.proofs.Rows.ApartRowLaws.{frozen_were}
 use Rattle.test_definitions.proofs.Steps.ApartStepLaws.{was_alike}
 use Rattle.test_definitions.proofs.Rows.ChangedPlaceRowLaws.{CellsWithin}
-use Rattle.test_definitions.proofs.Runs.EndedImageLaws.{frozen_by, gives_times, parted}
+use Rattle.test_definitions.proofs.Frozen.FreedBlockLaws.{frozen_by, gives_times, parted}
 use Rattle.test_definitions.proofs.Frozen.FrozenApartLaws.{frozen_apart, owner_in_roots}
 use Rattle.test_definitions.proofs.Frozen.FrozenOrderLaws.{IsOneOf}
 use Rattle.test_definitions.proofs.Rows.KeptRowLaws.{one, unchanged_alike, plain_before}

@@ -35,7 +35,7 @@ use Rattle.test_definitions.specs.Alike.{StandAlike, StaysAlike}
 use Rattle.test_definitions.proofs.Runs.AlikeFirstLaws.{frozen_order}
 use Rattle.test_definitions.proofs.ValueChanges.BareValueLaws.{bare_alike}
 use Rattle.test_definitions.proofs.ValueChanges.ChangedPlaceLaws.{its_within, its_owned, owners_with_value, counted_raised}
-use Rattle.test_definitions.proofs.Runs.EndedImageLaws.{frozen_by, gives_times, parted}
+use Rattle.test_definitions.proofs.Frozen.FreedBlockLaws.{frozen_by, gives_times, parted}
 use Rattle.test_definitions.proofs.Frozen.FrozenApartLaws.{frozen_apart}
 use Rattle.test_definitions.proofs.Frozen.FrozenReleasedLaws.{released_stay}
 use Rattle.test_definitions.proofs.Rows.KeptRowLaws.{one, unchanged_alike}

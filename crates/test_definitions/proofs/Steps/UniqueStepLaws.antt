@@ -23,7 +23,7 @@ use Rattle.client_spec.specs.Answer.{Answer, Outcome, success, bad_alloc, alread
 use Rattle.client_spec.specs.Effect.{effect, add_unique}
 use Rattle.client_spec.specs.Pictures.{Pictures, meaning_in}
 use Rattle.client_spec.specs.Asks.{if_absent, unique_asks, AsksBy, ReturnsBy, GrantsAsks, ChangesOnSuccess}
-use Rattle.client_spec.specs.Ties.{Spot, nowhere, keeps_image, TouchesBy, GetsBlock, UniquesCome, ObjectsComeBy}
+use Rattle.client_spec.specs.Ties.{Spot, nowhere, keeps_image, TouchesBy, AllocatesAt, UniquesCome, ObjectsComeBy}
 use Rattle.client_spec.specs.OnImages.{Move, Situation, RowWith, RowOn}
 use Rattle.test_definitions.specs.Alike.{StandAlike, StaysAlike}
 use Rattle.test_definitions.proofs.Alike.AlikeChangeLaws.{root_one}
@@ -191,7 +191,7 @@ module _ (constants : List Constant) (others : List Root) (moves : List Move) (i
   grants : GrantsAsks constants i r.before.pictured y.image
   grants = by_two (λ o. ChangesOnSuccess constants i r.before.pictured o y.image → GrantsAsks constants i r.before.pictured y.image) i.operation which (λ k. k) (λ k. k) r.blocks
 
-  gets : GetsBlock x.image (size r.before.plain.types T) made_object.object.at
+  gets : AllocatesAt x.image (size r.before.plain.types T) made_object.object.at
   gets = by_two (λ o. ObjectsComeBy i r.before.pictured r.after.pictured o → UniquesCome i r.before.pictured r.after.pictured) i.operation which (λ k. k) (λ k. k) r.objects_come T made_object.object absent made_object.found
 
   asks_are : grants.asks ≡ block_for (size r.before.plain.types T) ∷ []
@@ -297,7 +297,7 @@ module _ (constants : List Constant) (others : List Root) (moves : List Move) (i
       let none_too : root_of_type q.before.pictured.picture.uniques (nat_abs i.number) ≡ None = ap (λ rs. root_of_type rs (nat_abs i.number)) (sym before.same.uniques) ∙ none in
       let a = made_object constants others moves i which x y r none in
       let b = made_object constants others moves i which z w q none_too in
-      let gets_too = subst (λ (s : State). GetsBlock z.image (size s.types (nat_abs i.number)) b.object.at) (sym plains) (gets constants others moves i which z w q none_too) in
+      let gets_too = subst (λ (s : State). AllocatesAt z.image (size s.types (nat_abs i.number)) b.object.at) (sym plains) (gets constants others moves i which z w q none_too) in
       let block = one_block others x.owned x.image z.image stand.images (size r.before.plain.types (nat_abs i.number)) a.object.at b.object.at (gets constants others moves i which x y r none) gets_too in
       let at : b.object.at ≡ a.object.at = omega (arith, block, above constants others moves i which x y r none, above constants others moves i which z w q none_too) in
       let type = type_is (nat_abs i.number) b.object q.after.pictured.picture.uniques b.found ∙ sym (type_is (nat_abs i.number) a.object r.after.pictured.picture.uniques a.found) in

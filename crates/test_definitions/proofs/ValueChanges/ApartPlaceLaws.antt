@@ -177,6 +177,6 @@ module _ {others : List Root} {s : State} {old : List ℕ} (p : Pictures others 
         reached = λ whole e. (let same : m.value ≡ whole = (let f : Some m.value ≡ Some whole = sym nth_is ∙ e in cc) in subst (λ v. value_at v path.selectors ≡ Some cut.value) same cut.value_is);
       }
 
-  -- its shared cells are those of the new value, and some of those that it had
+  -- its shared cells are the cells of the new value, and some cells that it had
   pub now_below : {vs : Values} (n : NowThere vs) (m : ℕ) (fs : List Frozen) → AllByRecursion (IsBelow m fs) (names_each l.root.values) → AllByRecursion (IsBelow m fs) (names_in n.now) → AllByRecursion (IsBelow m fs) (names_each vs)
   now_below n m fs before these = subst (λ vs. AllByRecursion (IsBelow m fs) (names_each vs)) (sym n.values_are) (own_below p old path place l found begins its holds_it still m fs before n.now these)

@@ -21,7 +21,7 @@ use Rattle.client_spec.specs.Answer.{Answer}
 use Rattle.client_spec.specs.Pictures.{Pictures, LeadsInImage}
 use Rattle.test_definitions.proofs.ValueChanges.ChangedPlaceLaws.{own_owner, value_below, its_within, its_owned, counted_left}
 use Rattle.test_definitions.proofs.Rows.ChangedPlaceRowLaws.{CellsWithin, cells_of}
-use Rattle.test_definitions.proofs.Runs.EndedImageLaws.{frozen_by, at_times, gives_times, parted}
+use Rattle.test_definitions.proofs.Frozen.FreedBlockLaws.{frozen_by, at_times, gives_times, parted}
 use Rattle.test_definitions.proofs.Frozen.FrozenApartLaws.{frozen_apart}
 use Rattle.test_definitions.proofs.Frozen.FrozenReleasedLaws.{each_based, released_stay}
 use Rattle.test_definitions.proofs.Rows.OnePlaceLaws.{RefersTo}
@@ -71,7 +71,7 @@ module _ {constants : List Constant} {others : List Root} {i : Instruction} {pla
   pub lives : LiveBeside p new its
   lives h some none none_frozen = omega (arith, some, none, none_frozen, own_within h, (lives_then h).0, (lives_then h).1)
 
-  -- the shared cells of the old value are those that went and those of the new value
+  -- the shared cells of the old value are the cells that went and the cells of the new value
   module _ (cells_are : (v : Value) (news : List ℕ) → Holds new k.before.picture.table place v news → SameNames (names_in touched.value) (goes.gone ++ names_in v)) where
     cells : CellsWithin p new place
     cells v news h =

@@ -12,7 +12,7 @@ use Rattle.seg_spec.specs.Shared.{names_in}
 use Rattle.seg_spec.specs.Window.{Placement, with_bytes}
 use Rattle.seg_spec.proofs.WindowLaws.{bytes_of}
 use Rattle.seg_cells.specs.Places.{place_of, object_at}
-use Rattle.seg_value.specs.Sharing.{FreezesParts}
+use Rattle.seg_spec.specs.Sharing.{FreezesParts}
 use Rattle.seg_value.proofs.ClearLaws.{typed}
 use Rattle.seg_value.proofs.SharedCells.{ClearsCell}
 use Rattle.seg_value.proofs.FrozenCells.{freezes, moved_as}
