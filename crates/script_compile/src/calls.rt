@@ -1,0 +1,388 @@
+//! Calls of functions. A function is compiled where it is called.
+
+use crate::compiler::{Compiler, Construct, ConstructKind};
+use script_code::{
+    About, COUNT, ErrorKind, Function, Key, Meaning, Place, Register, Root, Trouble, TypeAt, append,
+};
+use script_syntax::{
+    Block, ExpressionAt, ExpressionKind, Field, Range, Span, Statement, StatementKind, Tree,
+};
+use script_values::Task;
+
+/// How many blocks a search visits.
+const MOST_BLOCKS: usize = 1_000_000;
+
+impl Compiler<'_> {
+    /// Works out the arguments of a call, and then the call.
+    pub fn begin_call(
+        &mut self,
+        at: ExpressionAt,
+        span: Span,
+        arguments: Range,
+        wants_value: bool,
+    ) {
+        let word = self.emitter.word(span);
+        let Some(position) = self.emitter.program.function_named(self.emitter.tree, word) else {
+            let near = self.emitter.near_function(word);
+            return self
+                .emitter
+                .error_about(span, ErrorKind::NO_FUNCTION, About::near(near));
+        };
+        let Some(function) = self.emitter.program.functions.get(position).copied() else {
+            return self.emitter.skip();
+        };
+        if self.is_running(position) {
+            return self.emitter.error(span, ErrorKind::RECURSION);
+        }
+        let tree = self.emitter.tree;
+        let (fields, arguments) = (tree.fields(function.parameters), tree.arguments(arguments));
+        if fields.len() != arguments.len() {
+            return self.emitter.error_about(
+                span,
+                ErrorKind::ARGUMENT_COUNT,
+                About::numbers(fields.len(), arguments.len()),
+            );
+        }
+        if wants_value && !function.gives_number {
+            return self.emitter.error(span, ErrorKind::NO_RESULT);
+        }
+        self.emitter.then(&[
+            Task::Call(position, at, wants_value),
+            Task::At(self.emitter.code.span),
+        ]);
+        for (field, argument) in fields.iter().zip(arguments).rev() {
+            self.begin_argument(function, *field, *argument);
+        }
+    }
+
+    /// Whether a function is being compiled.
+    fn is_running(&self, position: usize) -> bool {
+        for construct in self.constructs.as_slice() {
+            if let ConstructKind::Function { function, .. } = construct.kind {
+                if function == position {
+                    return true;
+                }
+            }
+        }
+        false
+    }
+
+    fn begin_argument(&mut self, function: Function, field: Field, argument: ExpressionAt) {
+        if self.parameter_type(field) != TypeAt::INT {
+            if self.emitter.steps_of(argument, 0).is_none() {
+                let wanted = self.parameter_type(field);
+                return self.emitter.error_about(
+                    self.emitter.span_of(argument),
+                    ErrorKind::ARGUMENT_TYPE,
+                    About::of_type(wanted),
+                );
+            }
+            return self.emitter.then(&[Task::Place(argument, 0)]);
+        }
+        let changes = self.assigns(&[function.body], self.emitter.word(field.name));
+        if self.emitter.plain_name(argument).is_some() && !changes {
+            return self.emitter.then(&[Task::Evaluate(argument, None)]);
+        }
+        self.emitter
+            .then(&[Task::Evaluate(argument, None), Task::Fresh])
+    }
+
+    fn parameter_type(&mut self, field: Field) -> TypeAt {
+        match self.emitter.program.types.written(
+            self.emitter.tree,
+            field.value_type,
+            &mut self.emitter.code.trouble,
+        ) {
+            Ok(found) => found,
+            Err(_) => {
+                self.emitter.skip();
+                TypeAt::INT
+            }
+        }
+    }
+
+    /// Begins a function whose arguments are worked out.
+    pub fn call(&mut self, position: usize, at: ExpressionAt, wants_value: bool) {
+        let Some(function) = self.emitter.program.functions.get(position).copied() else {
+            return self.emitter.skip();
+        };
+        let (names, base) = (self.emitter.names.len(), self.emitter.names.base);
+        let held = self.hold_temporaries();
+        self.bind_parameters(function, at);
+        self.emitter.names.base = names;
+        let result = match function.gives_number {
+            true => Some(self.emitter.code.literal_held(0)),
+            false => None,
+        };
+        self.emitter.then(&[Task::SetFlat(self.emitter.is_flat)]);
+        self.emitter.is_flat = false;
+        self.push_construct(ConstructKind::Function {
+            result,
+            function: position,
+            base,
+            names,
+            wants_value,
+            held,
+        });
+        self.start_function(function)
+    }
+
+    fn start_function(&mut self, function: Function) {
+        self.start_running();
+        self.emitter
+            .then(&[Task::Block(function.body), Task::EndCall])
+    }
+
+    /// Keeps the registers that are in use, so that the function's statements don't take them.
+    fn hold_temporaries(&mut self) -> [bool; COUNT] {
+        let mut held = [false; COUNT];
+        for index in 0..COUNT {
+            let register = Register(index as u8);
+            if self.emitter.code.usage.is_temporary(register) {
+                self.emitter.code.usage.hold(register);
+                held[index] = true;
+            }
+        }
+        held
+    }
+
+    fn bind_parameters(&mut self, function: Function, at: ExpressionAt) {
+        let tree = self.emitter.tree;
+        let fields = tree.fields(function.parameters);
+        let (mut numbers, mut places) = (0usize, 0usize);
+        for field in fields {
+            if self.parameter_type(*field) == TypeAt::INT {
+                numbers = numbers.saturating_add(1);
+            } else {
+                places = places.saturating_add(1);
+            }
+        }
+        let first_number = self.emitter.values.len().saturating_sub(numbers);
+        let first_place = self.emitter.places.len().saturating_sub(places);
+        let (mut number, mut place) = (first_number, first_place);
+        for (index, field) in fields.iter().enumerate() {
+            let wanted = self.parameter_type(*field);
+            if wanted == TypeAt::INT {
+                self.bind_number_parameter(*field, number);
+                number = number.saturating_add(1);
+            } else {
+                let span = self.argument_span(at, index);
+                self.bind_place_parameter(function, *field, wanted, place, span);
+                place = place.saturating_add(1);
+            }
+            self.emitter.use_last_name();
+        }
+        self.emitter.values.truncate(first_number);
+        self.emitter.places.truncate(first_place);
+    }
+
+    fn argument_span(&self, at: ExpressionAt, index: usize) -> Span {
+        let span = self.emitter.span_of(at);
+        let Some(expression) = self.emitter.tree.expression(at) else {
+            return span;
+        };
+        match expression.kind {
+            ExpressionKind::Call(arguments) => match self
+                .emitter
+                .tree
+                .arguments(arguments)
+                .get(index)
+            {
+                Some(argument) => self.emitter.span_of(*argument),
+                None => span,
+            },
+            _ => span,
+        }
+    }
+
+    fn bind_number_parameter(&mut self, field: Field, value: usize) {
+        match self.emitter.values.get(value).copied() {
+            Some(value) => self
+                .emitter
+                .bind(field.name, Meaning::number(value.register)),
+            None => self.emitter.skip(),
+        }
+    }
+
+    fn bind_place_parameter(
+        &mut self,
+        function: Function,
+        field: Field,
+        wanted: TypeAt,
+        place: usize,
+        span: Span,
+    ) {
+        let Some(mut place) = self.emitter.places.get(place).copied() else {
+            return self.emitter.skip();
+        };
+        if place.is_length || place.value_type != wanted {
+            let found = if place.is_length {
+                TypeAt::INT
+            } else {
+                place.value_type
+            };
+            return self.emitter.error_about(
+                span,
+                ErrorKind::ARGUMENT_MISMATCH,
+                About::of_types(wanted, found),
+            );
+        }
+        self.keep_keys(&mut place, &[function.body]);
+        self.emitter.bind(
+            field.name,
+            Meaning::Place {
+                place,
+                register: None,
+                stamp: 0,
+            },
+        )
+    }
+
+    /// Ends a function.
+    pub fn end_call(&mut self) {
+        let Some(
+            Construct {
+                kind: ConstructKind::Function {
+                    result,
+                    function,
+                    base,
+                    names,
+                    wants_value,
+                    held,
+                },
+                running,
+                ..
+            },
+        ) = self.constructs.last().copied()
+        else {
+            return self.emitter.skip();
+        };
+        if self.restart_running() {
+            return match self.emitter.program.functions.get(function).copied() {
+                Some(function) => self.start_function(function),
+                None => self.emitter.skip(),
+            };
+        }
+        let _ = self.constructs.pop();
+        self.end_scope(names);
+        self.emitter.names.base = base;
+        if let Some(running) = running {
+            self.emitter.code.usage.release(running);
+        }
+        for index in 0..COUNT {
+            if held[index] {
+                self.emitter.code.usage.keep(Register(index as u8));
+            }
+        }
+        match result {
+            Some(result) if wants_value => {
+                self.emitter.code.usage.keep(result);
+                self.emitter.push_value(result, true)
+            }
+            Some(result) => {
+                self.emitter.code.usage.release(result);
+            }
+            None => {}
+        }
+    }
+
+    /// Keeps the keys of a place while a name refers to it. A key whose variable is set in these
+    /// blocks is copied.
+    pub fn keep_keys(&mut self, place: &mut Place, blocks: &[Block]) {
+        for at in place.first..place.end {
+            if let Some(way) = self.emitter.ways.get(at).copied() {
+                if let Some(Key::Register(register)) = way.kind.key() {
+                    let key = Key::Register(self.keep_key(register, blocks));
+                    if let Some(way) = self.emitter.ways.get_mut(at) {
+                        way.kind = way.kind.with_key(key);
+                    }
+                }
+            }
+        }
+        if let Root::Element(object, Key::Register(register)) = place.root {
+            let key = Key::Register(self.keep_key(register, blocks));
+            place.root = Root::Element(object, key);
+        }
+    }
+
+    fn keep_key(&mut self, register: Register, blocks: &[Block]) -> Register {
+        let mut kept = register;
+        if let Some(span) = self.variable_in(register) {
+            if self.assigns(blocks, self.emitter.word(span)) {
+                kept = self.emitter.code.take();
+                self.emitter.code.copy(kept, register);
+            }
+        }
+        self.emitter
+            .bind(self.emitter.code.span, Meaning::Hidden(kept));
+        kept
+    }
+
+    /// The visible variable with this register.
+    fn variable_in(&self, register: Register) -> Option<Span> {
+        for (at, name) in self.emitter.names.all().iter().enumerate() {
+            if at >= self.emitter.names.base {
+                if let Meaning::Number {
+                    register: found,
+                    ..
+                } = name.meaning
+                {
+                    if found == register {
+                        return Some(name.span);
+                    }
+                }
+            }
+        }
+        None
+    }
+
+    /// Whether a number with this name is set in these blocks.
+    pub fn assigns(&mut self, blocks: &[Block], word: &[u8]) -> bool {
+        let mut waiting = Vec::new(self.emitter.alloc);
+        let tree = self.emitter.tree;
+        for block in blocks {
+            add_block(&mut waiting, *block, &mut self.emitter.code.trouble);
+        }
+        for _ in 0..MOST_BLOCKS {
+            let Some(block) = waiting.pop() else {
+                return false;
+            };
+            for range in [block.statements, block.following] {
+                for statement in tree.statements(range) {
+                    if assigns_name(tree, statement, word) {
+                        return true;
+                    }
+                    add_blocks(&mut waiting, statement, &mut self.emitter.code.trouble);
+                }
+            }
+        }
+        true
+    }
+}
+
+/// Whether a statement sets a number with this name.
+fn assigns_name(tree: &Tree<'_>, statement: &Statement, word: &[u8]) -> bool {
+    let StatementKind::Set { place, .. } = statement.kind else {
+        return false;
+    };
+    match tree.expression(place) {
+        Some(expression) => match expression.kind {
+            ExpressionKind::Place(steps) => steps.is_empty() && tree.word(expression.span) == word,
+            _ => false,
+        },
+        None => false,
+    }
+}
+
+fn add_block(waiting: &mut Vec<Block>, block: Block, trouble: &mut Trouble) {
+    append(waiting, block, trouble);
+}
+
+fn add_blocks(waiting: &mut Vec<Block>, statement: &Statement, trouble: &mut Trouble) {
+    if let Some(block) = statement.body {
+        add_block(waiting, block, trouble);
+    }
+    if let Some(part) = statement.otherwise {
+        add_block(waiting, part.block, trouble);
+    }
+}

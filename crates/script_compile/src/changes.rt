@@ -1,0 +1,635 @@
+//! Statements that change places.
+
+use crate::compiler::Compiler;
+use client_code::Operation;
+use script_code::{
+    About, Error, ErrorKind, Known, Meaning, Operand, Place, Register, Root, Shape, TypeAt, WayKind,
+};
+use script_syntax::{
+    BinaryOperator, Container, ExpressionAt, ExpressionKind, Range, SetOperator, Span, Statement,
+    StatementKind, Step, StepKind, ValueKind,
+};
+use script_values::{Handler, Removed, Task, Value, Walk};
+
+impl Compiler<'_> {
+    pub fn begin_set(&mut self, statement: Statement) {
+        let StatementKind::Set { place, items, .. } = statement.kind else {
+            return;
+        };
+        if let Some(name) = self.emitter.plain_name(place) {
+            if self.is_variable(place) {
+                return self.begin_assign(statement, name, items);
+            }
+        }
+        if self.emitter.is_text(place) {
+            return self
+                .emitter
+                .then(&[Task::Place(place, 0), Task::DoText(statement)]);
+        }
+        if self.is_own(place) {
+            return self.begin_put(statement, place, items);
+        }
+        match self.only_value(&statement, items) {
+            Ok(value) => self.emitter.then(&[
+                Task::Place(place, 0),
+                Task::Evaluate(value, None),
+                Task::DoSet(statement),
+            ]),
+            Err(_) => self
+                .emitter
+                .then(&[Task::Place(place, 0), Task::DoSet(statement)]),
+        }
+    }
+
+    fn is_own(&self, at: ExpressionAt) -> bool {
+        match self.emitter.type_of(at) {
+            Some(found) => matches!(
+                self.emitter.program.types.shape(found),
+                Shape::Of(Container::Own, _)
+            ),
+            None => false,
+        }
+    }
+
+    /// The one number of an assignment.
+    fn only_value(&self, statement: &Statement, items: Range) -> Result<ExpressionAt, Error> {
+        let (span, kind) = match self.emitter.tree.items(items) {
+            [item] => match item.value.kind {
+                ValueKind::Expression(at) if item.width.is_none() => return Ok(at),
+                ValueKind::Expression(_) => (item.value.span, ErrorKind::MISPLACED_WIDTH),
+                _ => (operator_span(statement), ErrorKind::SEVERAL_VALUES),
+            },
+            _ => (operator_span(statement), ErrorKind::SEVERAL_VALUES),
+        };
+        Err(Error::at(span, kind))
+    }
+
+    /// Sets a number with a name.
+    fn begin_assign(&mut self, statement: Statement, name: usize, items: Range) {
+        let StatementKind::Set {
+            place,
+            operator,
+            operator_span,
+            ..
+        } = statement.kind
+        else {
+            return;
+        };
+        let Some(found) = self.emitter.names.get(name) else {
+            return self.emitter.skip();
+        };
+        let Meaning::Number {
+            register,
+            is_fixed,
+            ..
+        } = found.meaning
+        else {
+            return self.emitter.skip();
+        };
+        let span = self.emitter.span_of(place);
+        if is_fixed {
+            return self.emitter.error(span, ErrorKind::LOOP_NAME);
+        }
+        if let [item] = self.emitter.tree.items(items) {
+            if !matches!(item.value.kind, ValueKind::Expression(_)) {
+                return self
+                    .emitter
+                    .error_about(operator_span, ErrorKind::IS_NUMBER, About::name(span));
+            }
+        }
+        let value = match self.only_value(&statement, items) {
+            Ok(value) => value,
+            Err(error) => return self.emitter.fail(error),
+        };
+        self.emitter.names.use_name(name);
+        self.emitter.names.lengthen(name);
+        match binary_of(operator) {
+            Some(operator) => self.change(register, operator, operator_span, place, value),
+            None => self.emitter.then(&[
+                Task::Evaluate(value, Some(register)),
+                Task::MoveTo(register),
+            ]),
+        }
+    }
+
+    /// Changes the number in a register, which is at this place, by a value.
+    fn change(
+        &mut self,
+        register: Register,
+        operator: BinaryOperator,
+        operator_span: Span,
+        place: ExpressionAt,
+        value: ExpressionAt,
+    ) {
+        if matches!(operator, BinaryOperator::Divide | BinaryOperator::Remainder) {
+            self.emitter.then(&[Task::MoveTo(register)]);
+            return self
+                .emitter
+                .begin_division(operator_span, operator, place, value);
+        }
+        self.emitter.then(&[
+            Task::Push(Value {
+                register,
+                is_own: false,
+            }),
+            Task::Evaluate(value, None),
+            Task::Binary(operator, Some(register)),
+            Task::MoveTo(register),
+        ])
+    }
+
+    /// Sets the number at the last place to the last number.
+    pub fn set_number(&mut self, statement: Statement) {
+        let place = self.emitter.pop_place();
+        self.check_settable(&statement, &place);
+        let StatementKind::Set {
+            operator,
+            items,
+            ..
+        } = statement.kind
+        else {
+            return;
+        };
+        if let Err(error) = self.only_value(&statement, items) {
+            return self.emitter.fail(error);
+        }
+        let operator = match operator {
+            SetOperator::Set => None,
+            SetOperator::Divide | SetOperator::Remainder => {
+                return self
+                    .emitter
+                    .error(operator_span(&statement), ErrorKind::ONLY_NAMED_NUMBERS);
+            }
+            SetOperator::Add => Some(Operation::Add),
+            SetOperator::Subtract => Some(Operation::Sub),
+            SetOperator::Multiply => Some(Operation::Mul),
+        };
+        let value = self.emitter.pop_value();
+        self.emitter.code.usage.hold(value.register);
+        let handler = self.place_handler(statement, &place);
+        let code = self.emitter.code_register(&place, handler);
+        let walk = self.emitter.walk(&place, true);
+        match operator {
+            None => self
+                .emitter
+                .code
+                .act(Operation::Store, walk.register, value.register.0),
+            Some(operation) => {
+                let sum = self.emitter.code.take();
+                self.emitter.code.read(Operation::Load, sum, walk.register);
+                self.emitter
+                    .code
+                    .compute(operation, sum, sum, value.register);
+                self.emitter
+                    .code
+                    .act(Operation::Store, walk.register, sum.0);
+                self.emitter.code.usage.free(sum);
+            }
+        }
+        self.emitter.then(&[Task::Release(value.register)]);
+        self.emitter.close_handling(&walk, handler, code)
+    }
+
+    /// What is done if the walk to a place fails. Nothing if it can't.
+    fn place_handler(&mut self, statement: Statement, place: &Place) -> Handler {
+        if self.emitter.fallible(place) == 0 {
+            return Handler::Nothing;
+        }
+        self.emitter.handler(statement)
+    }
+
+    fn check_settable(&mut self, statement: &Statement, place: &Place) {
+        let span = operator_span(statement);
+        if place.is_length {
+            return self.emitter.error(place.span, ErrorKind::LENGTH_SET);
+        }
+        let value_type = place.value_type;
+        if value_type != TypeAt::INT {
+            let kind = match self.emitter.program.types.shape(value_type) {
+                Shape::Of(Container::Shared, _) => ErrorKind::SHARED_SET,
+                Shape::Struct(_) => ErrorKind::STRUCT_SET,
+                _ => ErrorKind::CONTAINER_SET,
+            };
+            return self
+                .emitter
+                .error_about(span, kind, About::of_type(value_type));
+        }
+        match self.emitter.last_way(place) {
+            Some(WayKind::FirstKey | WayKind::NextKey(_)) => {
+                self.emitter.error(place.span, ErrorKind::KEY_SET)
+            }
+            Some(WayKind::Byte(_)) => self.emitter.error(place.span, ErrorKind::BYTE_SET),
+            _ => self.emitter.check_changeable(place),
+        }
+    }
+
+    // Owned objects
+
+    fn begin_put(&mut self, statement: Statement, place: ExpressionAt, items: Range) {
+        let StatementKind::Set { operator, .. } = statement.kind else {
+            return;
+        };
+        let [item] = self.emitter.tree.items(items) else {
+            return self
+                .emitter
+                .error(operator_span(&statement), ErrorKind::ONLY_NUMBERS);
+        };
+        if operator != SetOperator::Set {
+            return self
+                .emitter
+                .error(operator_span(&statement), ErrorKind::ONLY_NUMBERS);
+        }
+        let owner = match item.value.kind {
+            ValueKind::Expression(at) => self.emitter.plain_name(at),
+            _ => None,
+        };
+        match owner {
+            Some(owner) if self.owner(owner).is_some() => {
+                self.emitter
+                    .then(&[Task::Place(place, 0), Task::DoPut(statement, owner)])
+            }
+            _ => self.emitter.error(item.value.span, ErrorKind::OWNER_WANTED),
+        }
+    }
+
+    /// The register and the type of the object that a name owns or owned.
+    fn owner(&self, name: usize) -> Option<(Register, TypeAt)> {
+        match self.emitter.names.get(name)?.meaning {
+            Meaning::Owner {
+                register,
+                value_type,
+            } => Some((register, value_type)),
+            _ => None,
+        }
+    }
+
+    /// Checks that a name owns an object of the wanted type, which isn't what the place is in.
+    fn check_owner(
+        &mut self,
+        span: Span,
+        name: usize,
+        wanted: TypeAt,
+        place: &Place,
+        in_itself: ErrorKind,
+    ) -> Register {
+        let Some((register, found)) = self.owner(name) else {
+            self.emitter.error(span, ErrorKind::OWNER_WANTED);
+            return Register(0);
+        };
+        if found != wanted {
+            self.emitter
+                .error_about(span, ErrorKind::MISMATCH, About::of_types(found, wanted));
+            return Register(0);
+        }
+        if place.root == Root::Owner(name) {
+            self.emitter.error(span, in_itself);
+            return Register(0);
+        }
+        if !self.emitter.code.owns(register) {
+            let line = match self.emitter.names.get(name) {
+                Some(name) => name.span.line,
+                None => span.line,
+            };
+            self.emitter
+                .error_about(span, ErrorKind::MOVED, About::number(line));
+            return Register(0);
+        }
+        self.emitter.names.use_name(name);
+        register
+    }
+
+    /// Moves an owned object into the last place.
+    pub fn put_owned(&mut self, statement: Statement, owner: usize) {
+        let place = self.emitter.pop_place();
+        let Shape::Of(Container::Own, content) = self.emitter.program.types.shape(place.value_type)
+        else {
+            return self.emitter.skip();
+        };
+        let span = self.item_span(&statement);
+        let register = self.check_owner(span, owner, content, &place, ErrorKind::OWNS_ITSELF);
+        self.emitter.check_changeable(&place);
+        self.emitter.remove(&place, Removed::Below, statement.span);
+        let handler = self.place_handler(statement, &place);
+        let code = self.emitter.code_register(&place, handler);
+        let walk = self.emitter.walk(&place, true);
+        self.emitter
+            .code
+            .act(Operation::Put, walk.register, register.0);
+        self.emitter.code.end_others(walk.register);
+        self.emitter.code.forget_owner(register);
+        self.emitter.close_handling(&walk, handler, code)
+    }
+
+    /// The span of the first item of an assignment.
+    fn item_span(&self, statement: &Statement) -> Span {
+        let StatementKind::Set { items, .. } = statement.kind else {
+            return statement.span;
+        };
+        match self.emitter.tree.items(items).first() {
+            Some(item) => item.value.span,
+            None => statement.span,
+        }
+    }
+
+    pub fn begin_freeze(&mut self, statement: Statement) {
+        let StatementKind::Freeze { place, .. } = statement.kind else {
+            return;
+        };
+        self.emitter
+            .then(&[Task::Place(place, 0), Task::DoFreeze(statement)])
+    }
+
+    /// Moves an owned object into the last place and freezes it.
+    pub fn freeze(&mut self, statement: Statement) {
+        let StatementKind::Freeze { name, .. } = statement.kind else {
+            return;
+        };
+        let place = self.emitter.pop_place();
+        let Shape::Of(Container::Shared, content) = self
+            .emitter
+            .program
+            .types
+            .shape(place.value_type)
+        else {
+            return self.emitter.error_about(
+                place.span,
+                ErrorKind::FREEZE_OF,
+                About::of_type(place.value_type),
+            );
+        };
+        let word = self.emitter.word(name);
+        let Some(owner) = self.emitter.names.find(self.emitter.tree, word) else {
+            return self.emitter.error(name, ErrorKind::NEW_WANTED);
+        };
+        if self.owner(owner).is_none() {
+            return self.emitter.error(name, ErrorKind::NEW_WANTED);
+        }
+        let register = self.check_owner(name, owner, content, &place, ErrorKind::SHARES_ITSELF);
+        self.emitter.check_changeable(&place);
+        let handler = self.emitter.handler(statement);
+        self.emitter.remove(&place, Removed::Below, statement.span);
+        let code = self.emitter.code.literal_held(0);
+        let walk = self.emitter.walk(&place, true);
+        let failed = self.emitter.code.take_held();
+        self.emitter
+            .code
+            .open_freeze(failed, walk.register, register);
+        self.emitter.code.begin_else();
+        self.emitter.code.copy(code, failed);
+        self.emitter.code.drop_owner(register);
+        self.emitter.code.end_part();
+        self.emitter.code.usage.release(failed);
+        self.emitter.close_coded(&walk, handler, code)
+    }
+
+    pub fn begin_share(&mut self, statement: Statement) {
+        let StatementKind::Share { place, source } = statement.kind else {
+            return;
+        };
+        self.emitter.then(&[
+            Task::Place(place, 0),
+            Task::Place(source, 0),
+            Task::DoShare(statement),
+        ])
+    }
+
+    /// Makes the last place but one share what the last place shares.
+    pub fn share(&mut self, statement: Statement) {
+        let source = self.emitter.pop_place();
+        let place = self.emitter.pop_place();
+        for place in [place, source] {
+            if !matches!(
+                self.emitter.program.types.shape(place.value_type),
+                Shape::Of(Container::Shared, _)
+            ) {
+                return self.emitter.error_about(
+                    place.span,
+                    ErrorKind::SHARE_OF,
+                    About::of_type(place.value_type),
+                );
+            }
+        }
+        if place.value_type != source.value_type {
+            return self.emitter.error_about(
+                source.span,
+                ErrorKind::MISMATCH,
+                About::of_types(source.value_type, place.value_type),
+            );
+        }
+        self.emitter.check_changeable(&place);
+        self.emitter.remove(&place, Removed::Below, statement.span);
+        let handler = if self.emitter.fallible(&place) == 0 && self.emitter.fallible(&source) == 0 {
+            Handler::Nothing
+        } else {
+            self.emitter.handler(statement)
+        };
+        let code = self.emitter.code.literal_held(0);
+        let walk = self.emitter.walk(&place, true);
+        self.emitter.code.usage.hold(walk.register);
+        let other = self.emitter.walk(&source, false);
+        self.emitter
+            .code
+            .act(Operation::Share, walk.register, other.register.0);
+        self.emitter.code.end_others(walk.register);
+        self.emitter.close_noting(&other, code);
+        self.emitter.code.usage.release(walk.register);
+        self.emitter.close_coded(&walk, handler, code)
+    }
+
+    // Methods
+
+    /// A call of a function, or of a method.
+    pub fn begin_call_statement(&mut self, statement: Statement, at: ExpressionAt) {
+        let Some(expression) = self.emitter.tree.expression(at) else {
+            return;
+        };
+        match expression.kind {
+            ExpressionKind::Call(arguments) => {
+                if statement.otherwise.is_some() {
+                    return self.emitter.error(statement.span, ErrorKind::CALL_ELSE);
+                }
+                self.begin_call(at, expression.span, arguments, false)
+            }
+            _ => self.begin_method(at, statement, false),
+        }
+    }
+
+    /// Works out a method's value and its place, and then the method. The item may get a name.
+    pub fn begin_method(&mut self, at: ExpressionAt, statement: Statement, is_named: bool) {
+        let Some(
+            Step {
+                span,
+                kind: StepKind::Method(arguments),
+            },
+        ) = self.emitter.last_step(at)
+        else {
+            return self
+                .emitter
+                .error(self.emitter.span_of(at), ErrorKind::NO_METHOD);
+        };
+        let word = self.emitter.word(span);
+        if !is_push(word) && !is_pop(word) {
+            return self.emitter.error(span, ErrorKind::NO_METHOD);
+        }
+        let tree = self.emitter.tree;
+        let value = match tree.arguments(arguments) {
+            [] => None,
+            [value] if is_push(word) => Some(*value),
+            _ if is_push(word) => return self.emitter.error(span, ErrorKind::ONE_VALUE),
+            _ => return self.emitter.error(span, ErrorKind::NO_VALUE),
+        };
+        let finish = match (is_named, is_push(word)) {
+            (true, true) => Task::DoPush(statement, value.is_some()),
+            (true, false) => Task::DoPop(statement),
+            (false, _) => Task::DoMethod(statement, value.is_some()),
+        };
+        self.emitter.then(&[Task::Place(at, 1), finish]);
+        match value {
+            Some(value) => self.emitter.then(&[Task::Evaluate(value, None)]),
+            None => {}
+        }
+    }
+
+    /// The type of a container's items, if it has the method at the end of an expression.
+    pub fn method_item(&mut self, at: ExpressionAt, place: &Place, has_value: bool) -> TypeAt {
+        let Some(step) = self.emitter.last_step(at) else {
+            self.emitter.skip();
+            return TypeAt::INT;
+        };
+        let word = self.emitter.word(step.span);
+        let shape = self.emitter.program.types.shape(place.value_type);
+        let is_list = matches!(shape, Shape::Of(Container::List, _));
+        let is_at_end = word == b"push".as_slice() || word == b"pop".as_slice();
+        match shape.item() {
+            Some(item) if is_list || (is_at_end && shape.is_sequence()) => {
+                if has_value && item != TypeAt::INT {
+                    self.emitter
+                        .error_about(step.span, ErrorKind::ITEM_IS_NO, About::of_type(item));
+                    return TypeAt::INT;
+                }
+                item
+            }
+            _ => {
+                self.emitter.error_about(
+                    step.span,
+                    ErrorKind::WRONG_METHOD,
+                    About::of_type(place.value_type),
+                );
+                TypeAt::INT
+            }
+        }
+    }
+
+    /// A method of the last place, whose item gets no name.
+    pub fn do_method(&mut self, statement: Statement, has_value: bool) {
+        let StatementKind::Call(at) = statement.kind else {
+            return;
+        };
+        let mut place = self.emitter.pop_place();
+        self.emitter.enter_content(&mut place);
+        let item = self.method_item(at, &place, has_value);
+        let word = match self.emitter.last_step(at) {
+            Some(step) => self.emitter.word(step.span),
+            None => b"".as_slice(),
+        };
+        self.emitter.check_changeable(&place);
+        if word != b"push".as_slice() {
+            self.emitter.remove(&place, Removed::Below, statement.span);
+        }
+        let value = if has_value {
+            Some(self.emitter.pop_value())
+        } else {
+            None
+        };
+        if let Some(value) = value {
+            self.emitter.code.usage.hold(value.register);
+        }
+        let handler = if is_push(word) {
+            self.emitter.handler(statement)
+        } else {
+            self.emitter.own_handler(statement)
+        };
+        let code = self.emitter.code.literal_held(0);
+        let walk = self.emitter.walk(&place, is_push(word));
+        let failed = self.emitter.code.take_held();
+        if is_push(word) {
+            self.push_item(word, failed, &walk, &place, value, item);
+        } else {
+            let operation = match word {
+                b"pop" => Operation::PopBack,
+                _ => Operation::PopFront,
+            };
+            let registers = [failed.0, walk.register.0, 0];
+            self.emitter
+                .code
+                .open_change(operation, registers, failed, Known::Number);
+        }
+        self.emitter.code.close_noting(failed, code);
+        self.emitter.code.usage.release(failed);
+        if let Some(value) = value {
+            self.emitter.code.usage.release(value.register);
+        }
+        self.emitter.close_coded(&walk, handler, code)
+    }
+
+    /// Opens the part of an item that is pushed, and sets it.
+    fn push_item(
+        &mut self,
+        word: &[u8],
+        register: Register,
+        walk: &Walk,
+        place: &Place,
+        value: Option<Value>,
+        item: TypeAt,
+    ) {
+        if place.value_type == TypeAt::TEXT {
+            let Some(value) = value else {
+                return self.emitter.error(place.span, ErrorKind::BYTE_WANTED);
+            };
+            let registers = [register.0, walk.register.0, value.register.0];
+            return self.emitter.code.open(
+                Operation::AddByte,
+                registers,
+                Operand::Plain(0),
+                register,
+                Known::Number,
+            );
+        }
+        self.open_push(word == b"push".as_slice(), register, walk, item);
+        match value {
+            Some(value) => self
+                .emitter
+                .code
+                .act(Operation::Store, register, value.register.0),
+            None => {}
+        }
+    }
+}
+
+fn is_push(word: &[u8]) -> bool {
+    matches!(word, b"push" | b"push_front")
+}
+
+fn is_pop(word: &[u8]) -> bool {
+    matches!(word, b"pop" | b"pop_front")
+}
+
+/// The span of an assignment's operator.
+fn operator_span(statement: &Statement) -> Span {
+    match statement.kind {
+        StatementKind::Set { operator_span, .. } => operator_span,
+        _ => statement.span,
+    }
+}
+
+/// The operator of an assignment that also reads.
+fn binary_of(operator: SetOperator) -> Option<BinaryOperator> {
+    match operator {
+        SetOperator::Set => None,
+        SetOperator::Add => Some(BinaryOperator::Add),
+        SetOperator::Subtract => Some(BinaryOperator::Subtract),
+        SetOperator::Multiply => Some(BinaryOperator::Multiply),
+        SetOperator::Divide => Some(BinaryOperator::Divide),
+        SetOperator::Remainder => Some(BinaryOperator::Remainder),
+    }
+}

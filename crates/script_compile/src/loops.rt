@@ -1,0 +1,551 @@
+//! Loops. Each is one `WHILE`, whose body is compiled until it ends as it begins.
+
+use crate::compiler::{Compiler, Construct, ConstructKind};
+use crate::lookups::body_of;
+use client_code::Operation;
+use script_code::{
+    About, COUNT, ErrorKind, Key, Known, MOST_DIGITS, Meaning, Operand, Place, Register, Shape,
+    TypeAt, WayKind, append,
+};
+use script_syntax::{ExpressionAt, Source, Span, Statement, StatementKind};
+use script_values::{End, Handler, Loop, Task, Turn, decimal_digits};
+
+/// The most bytes of an input.
+const MOST_INPUT: i32 = 1 << 20;
+
+impl Compiler<'_> {
+    pub fn begin_for(&mut self, statement: Statement) {
+        let StatementKind::For {
+            key,
+            source,
+            max,
+            ..
+        } = statement.kind
+        else {
+            return;
+        };
+        match source {
+            Source::Input(_) => {
+                if let Some(key) = key {
+                    return self.emitter.error(key, ErrorKind::INPUT_PAIR);
+                }
+                let turns = match max {
+                    Some(max) => self.emitter.turns(max),
+                    None => MOST_INPUT,
+                };
+                self.begin_input(statement, turns)
+            }
+            Source::Numbers(first, end) => {
+                if let Some(key) = key {
+                    return self.emitter.error(key, ErrorKind::RANGE_PAIR);
+                }
+                self.begin_numbers(statement, first, end)
+            }
+            Source::Place(at) => {
+                if !self.emitter.is_place(at) {
+                    return self
+                        .emitter
+                        .error(self.emitter.span_of(at), ErrorKind::NO_SOURCE);
+                }
+                self.emitter
+                    .then(&[Task::Place(at, 0), Task::DoItems(statement)])
+            }
+        }
+    }
+
+    fn begin_input(&mut self, statement: Statement, turns: i32) {
+        let go = self.emitter.code.literal_held(1);
+        let byte = self.emitter.code.take_held();
+        self.emitter.then(&[
+            Task::BeginLoop(Loop {
+                statement,
+                go,
+                turns,
+                is_flat: self.emitter.is_flat,
+                turn: Turn::Input(byte),
+            }),
+            Task::Release(byte),
+            Task::Release(go),
+        ])
+    }
+
+    fn begin_numbers(&mut self, statement: Statement, first: ExpressionAt, end: ExpressionAt) {
+        if self.emitter.known_number(end).is_some() {
+            return self.emitter.then(&[
+                Task::Evaluate(first, None),
+                Task::Fresh,
+                Task::DoNumbers(statement),
+            ]);
+        }
+        self.emitter.then(&[
+            Task::Evaluate(first, None),
+            Task::Fresh,
+            Task::Evaluate(end, None),
+            Task::Fresh,
+            Task::DoNumbers(statement),
+        ])
+    }
+
+    /// A loop over numbers, after its first number and its end, if that isn't known.
+    pub fn loop_numbers(&mut self, statement: Statement) {
+        let StatementKind::For {
+            source: Source::Numbers(first, last),
+            max,
+            ..
+        } = statement.kind
+        else {
+            return;
+        };
+        let (low, high) = (
+            self.emitter.known_number(first),
+            self.emitter.known_number(last),
+        );
+        let end = match high {
+            Some(high) => End::Literal(high),
+            None => {
+                let register = self.emitter.pop_value().register;
+                self.emitter.code.usage.hold(register);
+                End::Register(register)
+            }
+        };
+        let index = self.emitter.pop_value().register;
+        self.emitter.code.usage.hold(index);
+        let turns = match (max, low, high) {
+            (Some(max), _, _) => self.emitter.turns(max),
+            (None, Some(low), Some(high)) => {
+                self.known_turns(statement.span, high.saturating_sub(low))
+            }
+            _ => return self.emitter.error(statement.span, ErrorKind::LOOP_BOUND),
+        };
+        let digits = digits_between(low, high);
+        let go = self.emitter.code.take_held();
+        self.test_index(go, index, end);
+        let release = match end {
+            End::Register(register) => Task::Release(register),
+            End::Literal(_) => Task::At(statement.span),
+        };
+        self.emitter.then(&[
+            Task::BeginLoop(Loop {
+                statement,
+                go,
+                turns,
+                is_flat: self.emitter.is_flat,
+                turn: Turn::Numbers {
+                    index,
+                    end,
+                    digits,
+                    is_positive: matches!(low, Some(low) if low >= 0),
+                },
+            }),
+            Task::Release(go),
+            Task::Release(index),
+            release,
+        ])
+    }
+
+    fn known_turns(&mut self, span: Span, count: i64) -> i32 {
+        match i32::try_from(count.max(1)) {
+            Ok(turns) if turns <= 1_000_000_000 => turns,
+            _ => {
+                self.emitter.error(span, ErrorKind::TURNS);
+                1
+            }
+        }
+    }
+
+    /// Sets a register to whether an index is below the end.
+    fn test_index(&mut self, go: Register, index: Register, end: End) {
+        match end {
+            End::Register(end) => self.emitter.code.compute(Operation::Less, go, index, end),
+            End::Literal(value) => {
+                let end = self.emitter.code.literal(value);
+                self.emitter.code.compute(Operation::Less, go, index, end);
+                self.emitter.code.usage.free(end);
+            }
+        }
+    }
+
+    /// A loop over the items of the last place.
+    pub fn loop_items(&mut self, statement: Statement) {
+        let StatementKind::For {
+            source: Source::Place(at),
+            max,
+            ..
+        } = statement.kind
+        else {
+            return;
+        };
+        let mut place = self.emitter.pop_place();
+        self.emitter.enter_content(&mut place);
+        let shape = self.emitter.program.types.shape(place.value_type);
+        if place.is_length || shape.item().is_none() {
+            return self.emitter.error_about(
+                self.emitter.span_of(at),
+                ErrorKind::NOT_CONTAINER,
+                About::of_type(place.value_type),
+            );
+        }
+        let turns = self.emitter.needed_turns(statement.span, max);
+        let names = self.emitter.names.len();
+        self.keep_keys(&mut place, &[body_of(&statement)]);
+        let (key, go) = (
+            self.emitter.code.literal_held(0),
+            self.emitter.code.literal_held(0),
+        );
+        let walk = self.emitter.walk(&place, false);
+        self.emitter.code.read(Operation::Len, go, walk.register);
+        if shape.is_map() {
+            self.open_key(Operation::FirstKey, key, walk.register, 0);
+            self.emitter.code.close();
+        } else {
+            let zero = self.emitter.code.literal(0);
+            self.emitter.code.compute(Operation::Less, go, zero, go);
+            self.emitter.code.usage.free(zero);
+        }
+        self.emitter.close_walk(&walk);
+        self.emitter.then(&[
+            Task::BeginLoop(Loop {
+                statement,
+                go,
+                turns,
+                is_flat: self.emitter.is_flat,
+                turn: Turn::Items { place, key },
+            }),
+            Task::Release(key),
+            Task::Release(go),
+            Task::EndScope(names),
+        ])
+    }
+
+    fn open_key(&mut self, operation: Operation, key: Register, map: Register, after: u8) {
+        let registers = [key.0, map.0, after];
+        self.emitter.code.open(operation, registers, Operand::Plain(0), key, Known::Number)
+    }
+
+    pub fn begin_while(&mut self, statement: Statement) {
+        let StatementKind::While { condition, max } = statement.kind else {
+            return;
+        };
+        let turns = self.emitter.needed_turns(statement.span, max);
+        let go = self.emitter.code.take_held();
+        self.emitter.then(&[
+            Task::Evaluate(condition, Some(go)),
+            Task::MoveTo(go),
+            Task::BeginLoop(Loop {
+                statement,
+                go,
+                turns,
+                is_flat: self.emitter.is_flat,
+                turn: Turn::While(condition),
+            }),
+            Task::Release(go),
+        ])
+    }
+
+    /// Begins a loop whose first test is done.
+    pub fn begin_loop(&mut self, found: Loop) {
+        self.emitter.code.usage.tidy();
+        self.emitter.then(&[Task::SetFlat(self.emitter.is_flat)]);
+        self.emitter.is_flat = false;
+        self.push_construct(ConstructKind::Loop(found));
+        self.start_loop()
+    }
+
+    /// Begins the body of the innermost loop.
+    fn start_loop(&mut self) {
+        let Some(construct) = self.constructs.last().copied() else {
+            return self.emitter.skip();
+        };
+        let ConstructKind::Loop(found) = construct.kind else {
+            return self.emitter.skip();
+        };
+        let forgets = construct.forgets;
+        for index in 0..COUNT {
+            if forgets[index] {
+                self.emitter.code.forget(Register(index as u8));
+            }
+        }
+        self.start_running();
+        self.emitter.code.open_loop(found.go, found.turns);
+        if let Some(running) = self.running() {
+            self.emitter.code.number(running, 1);
+        }
+        self.emitter.then(&[Task::EndLoop]);
+        self.begin_turn(found)
+    }
+
+    fn begin_turn(&mut self, found: Loop) {
+        let names = self.emitter.names.len();
+        let block = body_of(&found.statement);
+        let StatementKind::For { key, name, .. } = found.statement.kind else {
+            return self
+                .emitter
+                .then(&[Task::Block(block), Task::NextTurn(found)]);
+        };
+        match found.turn {
+            Turn::Input(byte) => {
+                self.emitter.code.open(
+                    Operation::GetByte,
+                    [byte.0, 0, 0],
+                    Operand::Plain(0),
+                    byte,
+                    Known::Number,
+                );
+                self.emitter
+                    .bind(name, Meaning::loop_number(byte, 3, false));
+                self.emitter.then(&[Task::Body(block, names, false), Task::EndInput(found.go)])
+            }
+            Turn::Numbers {
+                index,
+                digits,
+                is_positive,
+                ..
+            } => {
+                self.emitter
+                    .bind(name, Meaning::loop_number(index, digits, is_positive));
+                self.emitter
+                    .then(&[Task::Body(block, names, false), Task::NextTurn(found)])
+            }
+            Turn::Items {
+                place,
+                key: register,
+            } => { self.begin_item(found, key, name, &place, register) }
+            Turn::While(_) => self
+                .emitter
+                .then(&[Task::Block(block), Task::NextTurn(found)]),
+        }
+    }
+
+    /// Binds the key and the item of a turn.
+    fn begin_item(
+        &mut self,
+        found: Loop,
+        key: Option<Span>,
+        name: Span,
+        place: &Place,
+        register: Register,
+    ) {
+        let names = self.emitter.names.len();
+        let shape = self.emitter.program.types.shape(place.value_type);
+        let is_map = shape.is_map();
+        let body = Task::Body(body_of(&found.statement), names, false);
+        let next = Task::NextTurn(found);
+        let digits = if is_map { MOST_DIGITS } else { 10 };
+        let (key, item) = match key {
+            Some(key) => (Some(key), Some(name)),
+            None if is_map => (Some(name), None),
+            None => (None, Some(name)),
+        };
+        if let Some(key) = key {
+            self.emitter
+                .bind(key, Meaning::loop_number(register, digits, !is_map));
+        }
+        let (Some(item), Some(item_type)) = (item, shape.item()) else {
+            return self.emitter.then(&[body, next]);
+        };
+        let kind = match shape {
+            Shape::Text => WayKind::Byte(Key::Register(register)),
+            _ if is_map => WayKind::Key(Key::Register(register)),
+            _ => WayKind::Item(Key::Register(register)),
+        };
+        let place = self.emitter.longer_place(place, kind, item_type);
+        if item_type == TypeAt::INT {
+            let digits = if shape == Shape::Text { 3 } else { MOST_DIGITS };
+            return self.begin_number_item(item, &place, digits, body, next);
+        }
+        if found.is_flat {
+            self.bind_place(item, place);
+            return self.emitter.then(&[body, next]);
+        }
+        let walk = self.emitter.walk(&place, false);
+        self.bind_walk(item, &place, &walk);
+        self.emitter.then(&[body, Task::CloseWalk(walk, Handler::Nothing, None), next])
+    }
+
+    fn begin_number_item(
+        &mut self,
+        name: Span,
+        place: &Place,
+        digits: usize,
+        body: Task,
+        next: Task,
+    ) {
+        let register = self.emitter.code.literal_held(0);
+        let walk = self.emitter.walk(place, false);
+        self.emitter.read_number(register, walk.register, place);
+        self.emitter.close_walk(&walk);
+        self.emitter
+            .bind(name, Meaning::loop_number(register, digits, false));
+        self.emitter.then(&[body, next, Task::Release(register)])
+    }
+
+    /// Ends a turn over the input: without a byte the loop ends.
+    pub fn end_input(&mut self, go: Register) {
+        self.emitter.code.begin_else();
+        self.emitter.code.number(go, 0);
+        self.emitter.code.end_part()
+    }
+
+    /// Continues to the next turn, unless the loop was left.
+    pub fn next_turn(&mut self, found: Loop) {
+        self.emitter.code.usage.tidy();
+        self.emitter.code.span = found.statement.span;
+        let breaks = match self.constructs.last() {
+            Some(construct) => construct.breaks,
+            None => 0,
+        };
+        if breaks > 0 {
+            self.emitter.code.open_if(found.go);
+            self.emitter.then(&[Task::Else, Task::EndPart]);
+        }
+        match found.turn {
+            Turn::Input(_) => {}
+            Turn::Numbers { index, end, .. } => {
+                self.emitter.code.add(index, 1);
+                self.test_index(found.go, index, end)
+            }
+            Turn::Items { place, key } => self.next_item(&place, key, found.go),
+            Turn::While(condition) => self.emitter.then(&[
+                Task::Evaluate(condition, Some(found.go)),
+                Task::MoveTo(found.go),
+            ]),
+        }
+    }
+
+    fn next_item(&mut self, place: &Place, key: Register, go: Register) {
+        let is_map = self.emitter.program.types.shape(place.value_type).is_map();
+        let other = self.emitter.code.literal_held(0);
+        if !is_map {
+            self.emitter.code.add(key, 1);
+        }
+        let walk = self.emitter.walk(place, false);
+        if is_map {
+            self.open_key(Operation::NextKey, key, walk.register, key.0);
+            self.emitter.code.number(other, 1);
+            self.emitter.code.close();
+        } else {
+            self.emitter.code.read(Operation::Len, other, walk.register);
+        }
+        self.emitter.close_walk(&walk);
+        if is_map {
+            self.emitter.code.copy(go, other);
+        } else {
+            self.emitter.code.compute(Operation::Less, go, key, other);
+        }
+        self.emitter.code.usage.release(other);
+    }
+
+    /// Ends the body of the innermost loop. If it doesn't end as it begins, it is compiled again.
+    pub fn end_loop(&mut self) {
+        let Some(construct) = self.constructs.last().copied() else {
+            return;
+        };
+        let ConstructKind::Loop(found) = construct.kind else {
+            return self.emitter.skip();
+        };
+        if self.must_restart(&construct) {
+            return self.start_loop();
+        }
+        self.emitter.code.end_loop();
+        let _ = self.constructs.pop();
+        if let Some(running) = construct.running {
+            self.emitter.code.usage.release(running);
+        }
+        self.emitter.code.usage.tidy();
+        self.emitter.code.span = found.statement.span;
+        match found.statement.otherwise {
+            Some(part) => {
+                self.emitter.code.open_if(found.go);
+                self.emitter
+                    .then(&[Task::Block(part.block), Task::Else, Task::EndPart])
+            }
+            None => {}
+        }
+    }
+
+    /// Goes back to the beginning of a loop if its body has to be compiled again.
+    fn must_restart(&mut self, construct: &Construct) -> bool {
+        let mut forgets = construct.forgets;
+        let mut has_more = construct.wants_running && construct.running.is_none();
+        let before = self.emitter.code.before_loop();
+        for index in 0..COUNT {
+            let register = Register(index as u8);
+            let known = before.known(register);
+            if known != Known::Nothing && known != self.emitter.code.known(register) {
+                if matches!(known, Known::Owner(_)) {
+                    self.emitter
+                        .error(self.emitter.code.span, ErrorKind::MOVED_IN_LOOP);
+                    return false;
+                }
+                forgets[index] = true;
+                has_more = true;
+            }
+        }
+        if self.ends_outer_names(construct) {
+            has_more = true;
+        }
+        if !has_more {
+            return false;
+        }
+        let kept = self.emitter.code.ended.len();
+        self.restart_loop(construct, kept);
+        if let Some(construct) = self.constructs.last_mut() {
+            construct.forgets = forgets;
+        }
+        self.reset_construct();
+        true
+    }
+
+    /// Whether the body ends names from outside it. They are kept at the front of the names which it
+    /// ends.
+    fn ends_outer_names(&mut self, construct: &Construct) -> bool {
+        let mut found = false;
+        let before = construct.mark.ended();
+        for at in before..self.emitter.code.ended.len() {
+            if let Some(ended) = self.emitter.code.ended.get(at).copied() {
+                if self.is_outer_name(ended.name, construct.mark.emitter.names) {
+                    found = true;
+                }
+            }
+        }
+        found
+    }
+
+    fn is_outer_name(&self, id: usize, names: usize) -> bool {
+        for name in self.emitter.names.all().get(..names).unwrap_or_default() {
+            if name.id == id {
+                return true;
+            }
+        }
+        false
+    }
+
+    /// Goes back to the beginning of a loop, and keeps the outer names which its body ended.
+    fn restart_loop(&mut self, construct: &Construct, kept: usize) {
+        let before = construct.mark.ended();
+        let mut outer = Vec::new(self.emitter.alloc);
+        for at in before..kept {
+            if let Some(ended) = self.emitter.code.ended.get(at).copied() {
+                if self.is_outer_name(ended.name, construct.mark.emitter.names) {
+                    append(&mut outer, ended, &mut self.emitter.code.trouble);
+                }
+            }
+        }
+        self.go_back(&construct.mark);
+        for ended in outer.as_slice() {
+            self.emitter.code.end_name(ended.name, ended.span);
+        }
+        let mark = self.mark();
+        if let Some(construct) = self.constructs.last_mut() {
+            construct.mark = mark;
+        }
+    }
+}
+
+/// The most digits of a number from `low` to before `high`, as far as these are known.
+fn digits_between(low: Option<i64>, high: Option<i64>) -> usize {
+    match (low, high) {
+        (Some(low), Some(high)) => decimal_digits(low).max(decimal_digits(high.wrapping_sub(1))),
+        _ => MOST_DIGITS,
+    }
+}
