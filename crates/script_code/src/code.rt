@@ -452,21 +452,28 @@ impl Code {
         };
         let mut success = part.success;
         for index in 0..16u8 {
-            let register = Register(index);
-            let (one, two) = (success.known(register), self.known(register));
-            if matches!(one, Known::Owner(_)) && one != two {
-                self.insert_drop(part.else_at, register);
-                success.end_class(Class::Owner(register));
-                success.forget(register);
-            }
-            if matches!(two, Known::Owner(_)) && one != two {
-                self.drop_owner(register);
-            }
+            self.drop_unequal(Register(index), &mut success, part.else_at);
         }
         self.stamp = self.stamp.saturating_add(1);
         self.registers = success.merge(&self.registers, self.stamp);
         self.show_ended(part.first_ended, true);
         self.emit(Operation::End, [0, 0, 0], Operand::Plain(0))
+    }
+
+    /// Drops the object that a register owns at the end of one part only.
+    fn drop_unequal(&mut self, register: Register, success: &mut Registers, else_at: usize) {
+        let (one, two) = (success.known(register), self.known(register));
+        if one == two {
+            return;
+        }
+        if matches!(one, Known::Owner(_)) {
+            self.insert_drop(else_at, register);
+            success.end_class(Class::Owner(register));
+            success.forget(register);
+        }
+        if matches!(two, Known::Owner(_)) {
+            self.drop_owner(register);
+        }
     }
 
     /// Inserts the drop of an object at the end of a success part.

@@ -49,11 +49,7 @@ pub fn cost_of(alloc: Global, code: &[Instruction], trouble: &mut Trouble) -> Co
                 part.steps = 0;
             }
             Role::End => {
-                let steps = part.steps.max(part.success).saturating_mul(part.turns);
-                if part.turns > 1 && steps > cost.largest {
-                    cost.largest = steps;
-                    cost.opener = part.opener;
-                }
+                let steps = cost.end_part(&part);
                 part = outer.pop().unwrap_or(part);
                 part.steps = part.steps.saturating_add(steps);
             }
@@ -61,6 +57,18 @@ pub fn cost_of(alloc: Global, code: &[Instruction], trouble: &mut Trouble) -> Co
     }
     cost.steps = part.steps;
     cost
+}
+
+impl Cost {
+    /// The steps of a part that ends.
+    fn end_part(&mut self, part: &Count) -> u64 {
+        let steps = part.steps.max(part.success).saturating_mul(part.turns);
+        if part.turns > 1 && steps > self.largest {
+            self.largest = steps;
+            self.opener = part.opener;
+        }
+        steps
+    }
 }
 
 /// The part that an instruction opens. A turn of a loop is a step itself.

@@ -8,7 +8,7 @@ use crate::error::{Trouble, Warning, append};
 use crate::kind::ErrorKind;
 use crate::numbering::Numbering;
 use crate::program::NOWHERE;
-use crate::types::Types;
+use crate::types::{TypeAt, Types};
 use client_code::{Instruction, MOST_CONSTANTS, MOST_INSTRUCTIONS, TypeTable};
 use script_syntax::Span;
 use std::alloc::Global;
@@ -109,20 +109,30 @@ impl Linked {
         image: &TypeTable,
         trouble: &mut Trouble,
     ) -> i32 {
-        let (at, constant) = match emitted.operand {
-            Operand::Plain(number) => return number,
-            Operand::Text(constant) => return self.number(constant, trouble),
-            Operand::Type(at) => (at, None),
-            Operand::Named(at, constant) => (at, Some(constant)),
-        };
-        self.types.add(types, image, at, emitted.span, trouble);
-        let found = i32::from(self.types.number(at).unwrap_or(0));
-        match constant {
-            Some(constant) => found
-                .saturating_mul(256)
-                .saturating_add(self.number(constant, trouble)),
-            None => found,
+        match emitted.operand {
+            Operand::Plain(number) => number,
+            Operand::Text(constant) => self.number(constant, trouble),
+            Operand::Type(at) => self.type_number(types, image, at, emitted.span, trouble),
+            Operand::Named(at, constant) => {
+                let found = self.type_number(types, image, at, emitted.span, trouble);
+                found
+                    .saturating_mul(256)
+                    .saturating_add(self.number(constant, trouble))
+            }
         }
+    }
+
+    /// The number of a type. It gets the next one if it has none.
+    fn type_number(
+        &mut self,
+        types: &Types,
+        image: &TypeTable,
+        at: TypeAt,
+        span: Span,
+        trouble: &mut Trouble,
+    ) -> i32 {
+        self.types.add(types, image, at, span, trouble);
+        i32::from(self.types.number(at).unwrap_or(0))
     }
 
     /// Counts the most steps. More than a client may take are an error in the line of the loop that

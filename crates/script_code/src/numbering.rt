@@ -115,16 +115,29 @@ impl Numbering {
         match types.shape(TypeAt(at)) {
             Shape::Int => matches!(found, Type::I64),
             Shape::Text => matches!(found, Type::Str),
-            Shape::Of(container, part) => match part_of(container, found) {
-                Some(number) => self.is_same(part.0, usize::from(number), image),
-                None => false,
-            },
-            Shape::Struct(at) => match found {
-                Type::Struct(fields) => {
-                    self.has_same_fields(types.fields(at), fields.as_slice(), image)
-                }
-                _ => false,
-            },
+            Shape::Of(container, part) => self.has_same_item(container, part, found, image),
+            Shape::Struct(at) => self.is_same_struct(types.fields(at), found, image),
+        }
+    }
+
+    /// Whether an entry is a container with items of the same shape.
+    fn has_same_item(
+        &self,
+        container: Container,
+        part: TypeAt,
+        found: Type,
+        image: &TypeTable,
+    ) -> bool {
+        match part_of(container, found) {
+            Some(number) => self.is_same(part.0, usize::from(number), image),
+            None => false,
+        }
+    }
+
+    fn is_same_struct(&self, members: &[Member], found: Type, image: &TypeTable) -> bool {
+        match found {
+            Type::Struct(fields) => self.has_same_fields(members, fields.as_slice(), image),
+            _ => false,
         }
     }
 
@@ -147,19 +160,22 @@ impl Numbering {
                 one == two && self.is_alike(types, left.0, right.0)
             }
             (Shape::Struct(one), Shape::Struct(two)) => {
-                let (one, two) = (types.fields(one), types.fields(two));
-                if one.len() != two.len() {
-                    return false;
-                }
-                for (left, right) in one.iter().zip(two) {
-                    if !self.is_alike(types, left.value_type.0, right.value_type.0) {
-                        return false;
-                    }
-                }
-                true
+                self.has_alike_fields(types, types.fields(one), types.fields(two))
             }
             _ => false,
         }
+    }
+
+    fn has_alike_fields(&self, types: &Types, one: &[Member], two: &[Member]) -> bool {
+        if one.len() != two.len() {
+            return false;
+        }
+        for (left, right) in one.iter().zip(two) {
+            if !self.is_alike(types, left.value_type.0, right.value_type.0) {
+                return false;
+            }
+        }
+        true
     }
 
     /// The number of a type, if it has one.
@@ -301,16 +317,17 @@ impl Numbering {
             Shape::Int => Type::I64,
             Shape::Text => Type::Str,
             Shape::Of(container, part) => container_type(container, self.number(part)?),
-            Shape::Struct(found) => {
-                let mut parts = [0u8; 8];
-                let members = types.fields(found);
-                for (part, member) in parts.iter_mut().zip(members) {
-                    *part = self.number(member.value_type)?;
-                }
-                Type::Struct(Fields::new(parts.get(..members.len())?)?)
-            }
+            Shape::Struct(found) => self.struct_type(types.fields(found))?,
         };
         Some(found.entry())
+    }
+
+    fn struct_type(&self, members: &[Member]) -> Option<Type> {
+        let mut parts = [0u8; 8];
+        for (part, member) in parts.iter_mut().zip(members) {
+            *part = self.number(member.value_type)?;
+        }
+        Some(Type::Struct(Fields::new(parts.get(..members.len())?)?))
     }
 }
 

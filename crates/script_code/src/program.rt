@@ -136,45 +136,44 @@ impl Program {
             return Err(unknown(span));
         }
         match expression.kind {
-            ExpressionKind::Number(value) => Ok(Folded::Number(signed(value))),
-            ExpressionKind::Text(bytes) => Ok(Folded::Text(bytes)),
             ExpressionKind::Unary(operator, operand) => {
-                let operand = self.fold(tree, names, operand, depth - 1)?.number(span)?;
-                Ok(Folded::Number(apply_unary(operator, operand)))
+                let operand = self.fold(tree, names, operand, depth - 1);
+                fold_unary(operator, operand, span)
             }
             ExpressionKind::Binary(operator, left, right) => {
-                let left = self.fold(tree, names, left, depth - 1)?.number(span)?;
-                let right = self.fold(tree, names, right, depth - 1)?.number(span)?;
-                apply(operator, left, right, span)
+                let left = self.fold(tree, names, left, depth - 1)?;
+                let right = self.fold(tree, names, right, depth - 1);
+                fold_binary(operator, left, right, span)
             }
-            ExpressionKind::Place(_) => self.fold_name(tree, names, expression),
-            ExpressionKind::OrElse(..) | ExpressionKind::Call(_) => Err(unknown(span)),
+            _ => self.fold_leaf(tree, names, expression),
         }
     }
 
-    fn fold_name(
+    /// The value of an expression without operators.
+    fn fold_leaf(
         &self,
         tree: &Tree<'_>,
         names: &Names,
         expression: Expression,
     ) -> Result<Folded, Error> {
-        let span = expression.span;
-        let ExpressionKind::Place(steps) = expression.kind else {
-            return Err(unknown(span));
-        };
+        match expression.kind {
+            ExpressionKind::Number(value) => Ok(Folded::Number(signed(value))),
+            ExpressionKind::Text(bytes) => Ok(Folded::Text(bytes)),
+            ExpressionKind::Place(steps) if steps.is_empty() => {
+                self.fold_name(tree, names, expression.span)
+            }
+            _ => Err(unknown(expression.span)),
+        }
+    }
+
+    fn fold_name(&self, tree: &Tree<'_>, names: &Names, span: Span) -> Result<Folded, Error> {
         let word = tree.word(span);
-        if !steps.is_empty() || names.find(tree, word).is_some() {
-            return Err(unknown(span));
+        if names.find(tree, word).is_none() {
+            if let Some(found) = self.value_named(tree, word) {
+                return found.value.ok_or(unknown(span));
+            }
         }
-        match self.value_named(tree, word) {
-            Some(
-                NamedValue {
-                    value: Some(value),
-                    ..
-                },
-            ) => Ok(value),
-            _ => Err(unknown(span)),
-        }
+        Err(unknown(span))
     }
 }
 
@@ -196,10 +195,32 @@ pub fn signed(value: u64) -> i64 {
     i64::from_le_bytes(value.to_le_bytes())
 }
 
-fn apply_unary(operator: UnaryOperator, operand: i64) -> i64 {
-    match operator {
+fn fold_unary(
+    operator: UnaryOperator,
+    operand: Result<Folded, Error>,
+    span: Span,
+) -> Result<Folded, Error> {
+    let operand = operand?.number(span)?;
+    let value = match operator {
         UnaryOperator::Negative => operand.wrapping_neg(),
         UnaryOperator::Not => truth(operand == 0),
+    };
+    Ok(Folded::Number(value))
+}
+
+fn fold_binary(
+    operator: BinaryOperator,
+    left: Folded,
+    right: Result<Folded, Error>,
+    span: Span,
+) -> Result<Folded, Error> {
+    let left = left.number(span)?;
+    let right = right?.number(span)?;
+    match operator {
+        BinaryOperator::Divide | BinaryOperator::Remainder => {
+            fold_division(operator, left, right, span)
+        }
+        _ => Ok(Folded::Number(apply(operator, left, right))),
     }
 }
 
@@ -207,27 +228,45 @@ fn truth(is_true: bool) -> i64 {
     if is_true { 1 } else { 0 }
 }
 
-fn apply(operator: BinaryOperator, left: i64, right: i64, span: Span) -> Result<Folded, Error> {
+fn fold_division(
+    operator: BinaryOperator,
+    left: i64,
+    right: i64,
+    span: Span,
+) -> Result<Folded, Error> {
+    if right == 0 {
+        return Err(Error::at(span, ErrorKind::DIVIDES_BY_ZERO));
+    }
     let value = match operator {
+        BinaryOperator::Remainder => left.wrapping_rem(right),
+        _ => left.wrapping_div(right),
+    };
+    Ok(Folded::Number(value))
+}
+
+/// The number that an operator without exceptions gives.
+fn apply(operator: BinaryOperator, left: i64, right: i64) -> i64 {
+    match operator {
         BinaryOperator::Add => left.wrapping_add(right),
         BinaryOperator::Subtract => left.wrapping_sub(right),
         BinaryOperator::Multiply => left.wrapping_mul(right),
-        BinaryOperator::Divide | BinaryOperator::Remainder if right == 0 => {
-            let kind = ErrorKind::DIVIDES_BY_ZERO;
-            return Err(Error::at(span, kind));
-        }
-        BinaryOperator::Divide => left.wrapping_div(right),
-        BinaryOperator::Remainder => left.wrapping_rem(right),
-        BinaryOperator::Or => truth(left != 0 || right != 0),
-        BinaryOperator::And => truth(left != 0 && right != 0),
-        BinaryOperator::Equal => truth(left == right),
-        BinaryOperator::NotEqual => truth(left != right),
-        BinaryOperator::Less => truth(left < right),
-        BinaryOperator::LessOrEqual => truth(left <= right),
-        BinaryOperator::Greater => truth(left > right),
-        BinaryOperator::GreaterOrEqual => truth(left >= right),
-    };
-    Ok(Folded::Number(value))
+        _ => truth(holds(operator, left, right)),
+    }
+}
+
+/// Whether a comparison, `&&` or `||` of two numbers is true.
+fn holds(operator: BinaryOperator, left: i64, right: i64) -> bool {
+    match operator {
+        BinaryOperator::Or => left != 0 || right != 0,
+        BinaryOperator::And => left != 0 && right != 0,
+        BinaryOperator::Equal => left == right,
+        BinaryOperator::NotEqual => left != right,
+        BinaryOperator::Less => left < right,
+        BinaryOperator::LessOrEqual => left <= right,
+        BinaryOperator::Greater => left > right,
+        BinaryOperator::GreaterOrEqual => left >= right,
+        _ => false,
+    }
 }
 
 /// The beginning of a text.

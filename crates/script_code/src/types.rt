@@ -142,6 +142,18 @@ impl Types {
         None
     }
 
+    fn struct_type(
+        &mut self,
+        tree: &Tree<'_>,
+        name: Span,
+        trouble: &mut Trouble,
+    ) -> Result<TypeAt, Span> {
+        match self.struct_named(tree, tree.word(name)) {
+            Some(found) => Ok(self.intern(Shape::Struct(found), trouble)),
+            None => Err(name),
+        }
+    }
+
     /// The type that a program writes. `Err` with the name of a struct that isn't declared.
     pub fn written(
         &mut self,
@@ -152,10 +164,7 @@ impl Types {
         let mut at = match written.base {
             BaseType::Int => TypeAt::INT,
             BaseType::Text => TypeAt::TEXT,
-            BaseType::Struct(name) => match self.struct_named(tree, tree.word(name)) {
-                Some(found) => self.intern(Shape::Struct(found), trouble),
-                None => return Err(name),
-            },
+            BaseType::Struct(name) => self.struct_type(tree, name, trouble)?,
         };
         for container in tree.containers(written.containers).iter().rev() {
             at = self.intern(Shape::Of(*container, at), trouble);

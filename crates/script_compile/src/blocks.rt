@@ -16,8 +16,8 @@ impl Compiler<'_> {
 
     fn start_main(&mut self) {
         self.start_running();
-        self.emitter
-            .then(&[Task::Block(self.emitter.tree.body()), Task::EndMain])
+        let body = self.emitter.tree.body();
+        self.emitter.then(&[Task::Block(body), Task::EndMain])
     }
 
     pub fn end_main(&mut self) {
@@ -262,16 +262,7 @@ impl Compiler<'_> {
         let StatementKind::Return(value) = statement.kind else {
             return;
         };
-        let result = match self.constructs.get(at) {
-            Some(
-                Construct {
-                    kind: ConstructKind::Function { result, .. },
-                    ..
-                },
-            ) => *result,
-            _ => None,
-        };
-        match (value, result) {
+        match (value, self.result_of(at)) {
             (None, None) => self.leave(statement),
             (Some(value), Some(result)) => self.emitter.then(&[
                 Task::Evaluate(value, Some(result)),
@@ -282,6 +273,14 @@ impl Compiler<'_> {
                 .emitter
                 .error(statement.span, ErrorKind::RETURN_WITHOUT),
             (Some(_), None) => self.emitter.error(statement.span, ErrorKind::RETURN_WITH),
+        }
+    }
+
+    /// The register of the number that a function gives.
+    fn result_of(&self, at: usize) -> Option<Register> {
+        match self.constructs.get(at)?.kind {
+            ConstructKind::Function { result, .. } => result,
+            _ => None,
         }
     }
 }

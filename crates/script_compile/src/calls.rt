@@ -34,22 +34,34 @@ impl Compiler<'_> {
         if self.is_running(position) {
             return self.emitter.error(span, ErrorKind::RECURSION);
         }
-        let tree = self.emitter.tree;
-        let (fields, arguments) = (tree.fields(function.parameters), tree.arguments(arguments));
-        if fields.len() != arguments.len() {
-            return self.emitter.error_about(
-                span,
-                ErrorKind::ARGUMENT_COUNT,
-                About::numbers(fields.len(), arguments.len()),
-            );
+        if !self.takes(function, span, arguments) {
+            return;
         }
         if wants_value && !function.gives_number {
             return self.emitter.error(span, ErrorKind::NO_RESULT);
         }
-        self.emitter.then(&[
-            Task::Call(position, at, wants_value),
-            Task::At(self.emitter.code.span),
-        ]);
+        let here = self.emitter.code.span;
+        self.emitter
+            .then(&[Task::Call(position, at, wants_value), Task::At(here)]);
+        self.begin_arguments(function, arguments)
+    }
+
+    /// Whether a function takes so many arguments. If it doesn't, that is noted.
+    fn takes(&mut self, function: Function, span: Span, arguments: Range) -> bool {
+        let tree = self.emitter.tree;
+        let wanted = tree.fields(function.parameters).len();
+        let found = tree.arguments(arguments).len();
+        if wanted != found {
+            let about = About::numbers(wanted, found);
+            self.emitter
+                .error_about(span, ErrorKind::ARGUMENT_COUNT, about);
+        }
+        wanted == found
+    }
+
+    fn begin_arguments(&mut self, function: Function, arguments: Range) {
+        let tree = self.emitter.tree;
+        let (fields, arguments) = (tree.fields(function.parameters), tree.arguments(arguments));
         for (field, argument) in fields.iter().zip(arguments).rev() {
             self.begin_argument(function, *field, *argument);
         }
@@ -68,18 +80,12 @@ impl Compiler<'_> {
     }
 
     fn begin_argument(&mut self, function: Function, field: Field, argument: ExpressionAt) {
-        if self.parameter_type(field) != TypeAt::INT {
-            if self.emitter.steps_of(argument, 0).is_none() {
-                let wanted = self.parameter_type(field);
-                return self.emitter.error_about(
-                    self.emitter.span_of(argument),
-                    ErrorKind::ARGUMENT_TYPE,
-                    About::of_type(wanted),
-                );
-            }
-            return self.emitter.then(&[Task::Place(argument, 0)]);
+        let wanted = self.parameter_type(field);
+        if wanted != TypeAt::INT {
+            return self.begin_place_argument(wanted, argument);
         }
-        let changes = self.assigns(&[function.body], self.emitter.word(field.name));
+        let name = self.emitter.word(field.name);
+        let changes = self.assigns(&[function.body], name);
         if self.emitter.plain_name(argument).is_some() && !changes {
             return self.emitter.then(&[Task::Evaluate(argument, None)]);
         }
@@ -87,12 +93,18 @@ impl Compiler<'_> {
             .then(&[Task::Evaluate(argument, None), Task::Fresh])
     }
 
+    fn begin_place_argument(&mut self, wanted: TypeAt, argument: ExpressionAt) {
+        if self.emitter.steps_of(argument, 0).is_none() {
+            let span = self.emitter.span_of(argument);
+            return self
+                .emitter
+                .type_error(span, ErrorKind::ARGUMENT_TYPE, wanted);
+        }
+        self.emitter.then(&[Task::Place(argument, 0)])
+    }
+
     fn parameter_type(&mut self, field: Field) -> TypeAt {
-        match self.emitter.program.types.written(
-            self.emitter.tree,
-            field.value_type,
-            &mut self.emitter.code.trouble,
-        ) {
+        match self.emitter.written_type(field.value_type) {
             Ok(found) => found,
             Err(_) => {
                 self.emitter.skip();
@@ -114,8 +126,7 @@ impl Compiler<'_> {
             true => Some(self.emitter.code.literal_held(0)),
             false => None,
         };
-        self.emitter.then(&[Task::SetFlat(self.emitter.is_flat)]);
-        self.emitter.is_flat = false;
+        self.leave_flat();
         self.push_construct(ConstructKind::Function {
             result,
             function: position,
@@ -125,6 +136,13 @@ impl Compiler<'_> {
             held,
         });
         self.start_function(function)
+    }
+
+    /// Until the tasks are done that are added next, walks may keep their parts open.
+    pub fn leave_flat(&mut self) {
+        let is_flat = self.emitter.is_flat;
+        self.emitter.then(&[Task::SetFlat(is_flat)]);
+        self.emitter.is_flat = false;
     }
 
     fn start_function(&mut self, function: Function) {
@@ -149,14 +167,8 @@ impl Compiler<'_> {
     fn bind_parameters(&mut self, function: Function, at: ExpressionAt) {
         let tree = self.emitter.tree;
         let fields = tree.fields(function.parameters);
-        let (mut numbers, mut places) = (0usize, 0usize);
-        for field in fields {
-            if self.parameter_type(*field) == TypeAt::INT {
-                numbers = numbers.saturating_add(1);
-            } else {
-                places = places.saturating_add(1);
-            }
-        }
+        let numbers = self.count_numbers(fields);
+        let places = fields.len().saturating_sub(numbers);
         let first_number = self.emitter.values.len().saturating_sub(numbers);
         let first_place = self.emitter.places.len().saturating_sub(places);
         let (mut number, mut place) = (first_number, first_place);
@@ -174,6 +186,17 @@ impl Compiler<'_> {
         }
         self.emitter.values.truncate(first_number);
         self.emitter.places.truncate(first_place);
+    }
+
+    /// How many parameters are numbers.
+    fn count_numbers(&mut self, fields: &[Field]) -> usize {
+        let mut numbers = 0usize;
+        for field in fields {
+            if self.parameter_type(*field) == TypeAt::INT {
+                numbers = numbers.saturating_add(1);
+            }
+        }
+        numbers
     }
 
     fn argument_span(&self, at: ExpressionAt, index: usize) -> Span {
@@ -258,10 +281,7 @@ impl Compiler<'_> {
             return self.emitter.skip();
         };
         if self.restart_running() {
-            return match self.emitter.program.functions.get(function).copied() {
-                Some(function) => self.start_function(function),
-                None => self.emitter.skip(),
-            };
+            return self.restart_function(function);
         }
         let _ = self.constructs.pop();
         self.end_scope(names);
@@ -269,35 +289,41 @@ impl Compiler<'_> {
         if let Some(running) = running {
             self.emitter.code.usage.release(running);
         }
+        self.keep_temporaries(&held);
+        if let Some(result) = result {
+            self.end_result(result, wants_value)
+        }
+    }
+
+    fn restart_function(&mut self, function: usize) {
+        match self.emitter.program.functions.get(function).copied() {
+            Some(function) => self.start_function(function),
+            None => self.emitter.skip(),
+        }
+    }
+
+    /// Ends what `hold_temporaries` began.
+    fn keep_temporaries(&mut self, held: &[bool; COUNT]) {
         for index in 0..COUNT {
             if held[index] {
                 self.emitter.code.usage.keep(Register(index as u8));
             }
         }
-        match result {
-            Some(result) if wants_value => {
-                self.emitter.code.usage.keep(result);
-                self.emitter.push_value(result, true)
-            }
-            Some(result) => {
-                self.emitter.code.usage.release(result);
-            }
-            None => {}
+    }
+
+    fn end_result(&mut self, result: Register, wants_value: bool) {
+        if wants_value {
+            self.emitter.code.usage.keep(result);
+            return self.emitter.push_value(result, true);
         }
+        self.emitter.code.usage.release(result);
     }
 
     /// Keeps the keys of a place while a name refers to it. A key whose variable is set in these
     /// blocks is copied.
     pub fn keep_keys(&mut self, place: &mut Place, blocks: &[Block]) {
         for at in place.first..place.end {
-            if let Some(way) = self.emitter.ways.get(at).copied() {
-                if let Some(Key::Register(register)) = way.kind.key() {
-                    let key = Key::Register(self.keep_key(register, blocks));
-                    if let Some(way) = self.emitter.ways.get_mut(at) {
-                        way.kind = way.kind.with_key(key);
-                    }
-                }
-            }
+            self.keep_way(at, blocks);
         }
         if let Root::Element(object, Key::Register(register)) = place.root {
             let key = Key::Register(self.keep_key(register, blocks));
@@ -305,16 +331,31 @@ impl Compiler<'_> {
         }
     }
 
+    /// Keeps the key of the step at a position.
+    fn keep_way(&mut self, at: usize, blocks: &[Block]) {
+        let Some(way) = self.emitter.ways.get(at).copied() else {
+            return;
+        };
+        let Some(Key::Register(register)) = way.kind.key() else {
+            return;
+        };
+        let key = Key::Register(self.keep_key(register, blocks));
+        if let Some(way) = self.emitter.ways.get_mut(at) {
+            way.kind = way.kind.with_key(key);
+        }
+    }
+
     fn keep_key(&mut self, register: Register, blocks: &[Block]) -> Register {
         let mut kept = register;
         if let Some(span) = self.variable_in(register) {
-            if self.assigns(blocks, self.emitter.word(span)) {
+            let name = self.emitter.word(span);
+            if self.assigns(blocks, name) {
                 kept = self.emitter.code.take();
                 self.emitter.code.copy(kept, register);
             }
         }
-        self.emitter
-            .bind(self.emitter.code.span, Meaning::Hidden(kept));
+        let here = self.emitter.code.span;
+        self.emitter.bind(here, Meaning::Hidden(kept));
         kept
     }
 
@@ -339,7 +380,6 @@ impl Compiler<'_> {
     /// Whether a number with this name is set in these blocks.
     pub fn assigns(&mut self, blocks: &[Block], word: &[u8]) -> bool {
         let mut waiting = Vec::new(self.emitter.alloc);
-        let tree = self.emitter.tree;
         for block in blocks {
             add_block(&mut waiting, *block, &mut self.emitter.code.trouble);
         }
@@ -347,16 +387,25 @@ impl Compiler<'_> {
             let Some(block) = waiting.pop() else {
                 return false;
             };
-            for range in [block.statements, block.following] {
-                for statement in tree.statements(range) {
-                    if assigns_name(tree, statement, word) {
-                        return true;
-                    }
-                    add_blocks(&mut waiting, statement, &mut self.emitter.code.trouble);
-                }
+            if self.assigns_in(&mut waiting, block.statements, word)
+                || self.assigns_in(&mut waiting, block.following, word)
+            {
+                return true;
             }
         }
         true
+    }
+
+    /// Whether one of these statements sets a number with this name. If not, their blocks are added.
+    fn assigns_in(&mut self, waiting: &mut Vec<Block>, range: Range, word: &[u8]) -> bool {
+        let tree = self.emitter.tree;
+        for statement in tree.statements(range) {
+            if assigns_name(tree, statement, word) {
+                return true;
+            }
+            add_blocks(waiting, statement, &mut self.emitter.code.trouble);
+        }
+        false
     }
 }
 

@@ -6,8 +6,8 @@ use script_code::{
     About, Error, ErrorKind, Known, Meaning, Operand, Place, Register, Root, Shape, TypeAt, WayKind,
 };
 use script_syntax::{
-    BinaryOperator, Container, ExpressionAt, ExpressionKind, Range, SetOperator, Span, Statement,
-    StatementKind, Step, StepKind, ValueKind,
+    BinaryOperator, Container, ExpressionAt, ExpressionKind, Item, Range, SetOperator, Span,
+    Statement, StatementKind, Step, StepKind, ValueKind,
 };
 use script_values::{Handler, Removed, Task, Value, Walk};
 
@@ -24,21 +24,16 @@ impl Compiler<'_> {
         if self.emitter.is_text(place) {
             return self
                 .emitter
-                .then(&[Task::Place(place, 0), Task::DoText(statement)]);
+                .then_place(place, Task::DoText(statement));
         }
         if self.is_own(place) {
             return self.begin_put(statement, place, items);
         }
-        match self.only_value(&statement, items) {
-            Ok(value) => self.emitter.then(&[
-                Task::Place(place, 0),
-                Task::Evaluate(value, None),
-                Task::DoSet(statement),
-            ]),
-            Err(_) => self
-                .emitter
-                .then(&[Task::Place(place, 0), Task::DoSet(statement)]),
+        self.emitter.then(&[Task::DoSet(statement)]);
+        if let Ok(value) = self.only_value(&statement, items) {
+            self.emitter.then(&[Task::Evaluate(value, None)]);
         }
+        self.emitter.then(&[Task::Place(place, 0)])
     }
 
     fn is_own(&self, at: ExpressionAt) -> bool {
@@ -90,12 +85,11 @@ impl Compiler<'_> {
         if is_fixed {
             return self.emitter.error(span, ErrorKind::LOOP_NAME);
         }
-        if let [item] = self.emitter.tree.items(items) {
-            if !matches!(item.value.kind, ValueKind::Expression(_)) {
-                return self
-                    .emitter
-                    .error_about(operator_span, ErrorKind::IS_NUMBER, About::name(span));
-            }
+        if self.is_object(items) {
+            let about = About::name(span);
+            return self
+                .emitter
+                .error_about(operator_span, ErrorKind::IS_NUMBER, about);
         }
         let value = match self.only_value(&statement, items) {
             Ok(value) => value,
@@ -103,7 +97,27 @@ impl Compiler<'_> {
         };
         self.emitter.names.use_name(name);
         self.emitter.names.lengthen(name);
-        match binary_of(operator) {
+        self.assign(register, binary_of(operator), operator_span, place, value)
+    }
+
+    /// Whether an assignment's only item is `new` or `take`.
+    fn is_object(&self, items: Range) -> bool {
+        match self.emitter.tree.items(items) {
+            [item] => !matches!(item.value.kind, ValueKind::Expression(_)),
+            _ => false,
+        }
+    }
+
+    /// Sets the number in a register, which is at this place, to a value, or changes it by one.
+    fn assign(
+        &mut self,
+        register: Register,
+        operator: Option<BinaryOperator>,
+        operator_span: Span,
+        place: ExpressionAt,
+        value: ExpressionAt,
+    ) {
+        match operator {
             Some(operator) => self.change(register, operator, operator_span, place, value),
             None => self.emitter.then(&[
                 Task::Evaluate(value, Some(register)),
@@ -153,41 +167,33 @@ impl Compiler<'_> {
         if let Err(error) = self.only_value(&statement, items) {
             return self.emitter.fail(error);
         }
-        let operator = match operator {
-            SetOperator::Set => None,
-            SetOperator::Divide | SetOperator::Remainder => {
-                return self
-                    .emitter
-                    .error(operator_span(&statement), ErrorKind::ONLY_NAMED_NUMBERS);
-            }
-            SetOperator::Add => Some(Operation::Add),
-            SetOperator::Subtract => Some(Operation::Sub),
-            SetOperator::Multiply => Some(Operation::Mul),
-        };
+        if matches!(operator, SetOperator::Divide | SetOperator::Remainder) {
+            let span = operator_span(&statement);
+            return self.emitter.error(span, ErrorKind::ONLY_NAMED_NUMBERS);
+        }
         let value = self.emitter.pop_value();
         self.emitter.code.usage.hold(value.register);
         let handler = self.place_handler(statement, &place);
         let code = self.emitter.code_register(&place, handler);
         let walk = self.emitter.walk(&place, true);
-        match operator {
-            None => self
-                .emitter
-                .code
-                .act(Operation::Store, walk.register, value.register.0),
-            Some(operation) => {
-                let sum = self.emitter.code.take();
-                self.emitter.code.read(Operation::Load, sum, walk.register);
-                self.emitter
-                    .code
-                    .compute(operation, sum, sum, value.register);
-                self.emitter
-                    .code
-                    .act(Operation::Store, walk.register, sum.0);
-                self.emitter.code.usage.free(sum);
-            }
-        }
+        self.store(operator, walk.register, value.register);
         self.emitter.then(&[Task::Release(value.register)]);
         self.emitter.close_handling(&walk, handler, code)
+    }
+
+    /// Sets the number that a register refers to, or changes it by a value.
+    fn store(&mut self, operator: SetOperator, target: Register, value: Register) {
+        let operation = match operator {
+            SetOperator::Add => Operation::Add,
+            SetOperator::Subtract => Operation::Sub,
+            SetOperator::Multiply => Operation::Mul,
+            _ => return self.emitter.code.act(Operation::Store, target, value.0),
+        };
+        let sum = self.emitter.code.take();
+        self.emitter.code.read(Operation::Load, sum, target);
+        self.emitter.code.compute(operation, sum, sum, value);
+        self.emitter.code.act(Operation::Store, target, sum.0);
+        self.emitter.code.usage.free(sum);
     }
 
     /// What is done if the walk to a place fails. Nothing if it can't.
@@ -205,14 +211,8 @@ impl Compiler<'_> {
         }
         let value_type = place.value_type;
         if value_type != TypeAt::INT {
-            let kind = match self.emitter.program.types.shape(value_type) {
-                Shape::Of(Container::Shared, _) => ErrorKind::SHARED_SET,
-                Shape::Struct(_) => ErrorKind::STRUCT_SET,
-                _ => ErrorKind::CONTAINER_SET,
-            };
-            return self
-                .emitter
-                .error_about(span, kind, About::of_type(value_type));
+            let kind = unset_kind(self.emitter.program.types.shape(value_type));
+            return self.emitter.type_error(span, kind, value_type);
         }
         match self.emitter.last_way(place) {
             Some(WayKind::FirstKey | WayKind::NextKey(_)) => {
@@ -229,16 +229,18 @@ impl Compiler<'_> {
         let StatementKind::Set { operator, .. } = statement.kind else {
             return;
         };
-        let [item] = self.emitter.tree.items(items) else {
-            return self
+        let tree = self.emitter.tree;
+        match tree.items(items) {
+            [item] if operator == SetOperator::Set => {
+                self.begin_move(statement, place, item)
+            }
+            _ => self
                 .emitter
-                .error(operator_span(&statement), ErrorKind::ONLY_NUMBERS);
-        };
-        if operator != SetOperator::Set {
-            return self
-                .emitter
-                .error(operator_span(&statement), ErrorKind::ONLY_NUMBERS);
+                .error(operator_span(&statement), ErrorKind::ONLY_NUMBERS),
         }
+    }
+
+    fn begin_move(&mut self, statement: Statement, place: ExpressionAt, item: &Item) {
         let owner = match item.value.kind {
             ValueKind::Expression(at) => self.emitter.plain_name(at),
             _ => None,
@@ -246,7 +248,7 @@ impl Compiler<'_> {
         match owner {
             Some(owner) if self.owner(owner).is_some() => {
                 self.emitter
-                    .then(&[Task::Place(place, 0), Task::DoPut(statement, owner)])
+                    .then_place(place, Task::DoPut(statement, owner))
             }
             _ => self.emitter.error(item.value.span, ErrorKind::OWNER_WANTED),
         }
@@ -279,23 +281,25 @@ impl Compiler<'_> {
         if found != wanted {
             self.emitter
                 .error_about(span, ErrorKind::MISMATCH, About::of_types(found, wanted));
-            return Register(0);
-        }
-        if place.root == Root::Owner(name) {
+        } else if place.root == Root::Owner(name) {
             self.emitter.error(span, in_itself);
-            return Register(0);
+        } else if !self.emitter.code.owns(register) {
+            self.moved_error(span, name);
+        } else {
+            self.emitter.names.use_name(name);
+            return register;
         }
-        if !self.emitter.code.owns(register) {
-            let line = match self.emitter.names.get(name) {
-                Some(name) => name.span.line,
-                None => span.line,
-            };
-            self.emitter
-                .error_about(span, ErrorKind::MOVED, About::number(line));
-            return Register(0);
-        }
-        self.emitter.names.use_name(name);
-        register
+        Register(0)
+    }
+
+    /// Notes that the object which a name owned was moved or dropped.
+    fn moved_error(&mut self, span: Span, name: usize) {
+        let line = match self.emitter.names.get(name) {
+            Some(name) => name.span.line,
+            None => span.line,
+        };
+        self.emitter
+            .error_about(span, ErrorKind::MOVED, About::number(line))
     }
 
     /// Moves an owned object into the last place.
@@ -335,8 +339,7 @@ impl Compiler<'_> {
         let StatementKind::Freeze { place, .. } = statement.kind else {
             return;
         };
-        self.emitter
-            .then(&[Task::Place(place, 0), Task::DoFreeze(statement)])
+        self.emitter.then_place(place, Task::DoFreeze(statement))
     }
 
     /// Moves an owned object into the last place and freezes it.
@@ -345,41 +348,44 @@ impl Compiler<'_> {
             return;
         };
         let place = self.emitter.pop_place();
-        let Shape::Of(Container::Shared, content) = self
-            .emitter
-            .program
-            .types
-            .shape(place.value_type)
-        else {
-            return self.emitter.error_about(
-                place.span,
-                ErrorKind::FREEZE_OF,
-                About::of_type(place.value_type),
-            );
+        let shape = self.emitter.program.types.shape(place.value_type);
+        let Shape::Of(Container::Shared, content) = shape else {
+            return self
+                .emitter
+                .type_error(place.span, ErrorKind::FREEZE_OF, place.value_type);
         };
-        let word = self.emitter.word(name);
-        let Some(owner) = self.emitter.names.find(self.emitter.tree, word) else {
+        let Some(owner) = self.owner_named(name) else {
             return self.emitter.error(name, ErrorKind::NEW_WANTED);
         };
-        if self.owner(owner).is_none() {
-            return self.emitter.error(name, ErrorKind::NEW_WANTED);
-        }
         let register = self.check_owner(name, owner, content, &place, ErrorKind::SHARES_ITSELF);
         self.emitter.check_changeable(&place);
         let handler = self.emitter.handler(statement);
         self.emitter.remove(&place, Removed::Below, statement.span);
         let code = self.emitter.code.literal_held(0);
         let walk = self.emitter.walk(&place, true);
+        self.emit_freeze(walk.register, register, code);
+        self.emitter.close_coded(&walk, handler, code)
+    }
+
+    /// The local name with this spelling, if it owns or owned an object.
+    fn owner_named(&self, span: Span) -> Option<usize> {
+        let word = self.emitter.word(span);
+        let at = self.emitter.names.find(self.emitter.tree, word)?;
+        match self.owner(at) {
+            Some(_) => Some(at),
+            None => None,
+        }
+    }
+
+    /// Freezes an object. If that fails, the object is dropped, and a register is set to the code.
+    fn emit_freeze(&mut self, place: Register, owner: Register, code: Register) {
         let failed = self.emitter.code.take_held();
-        self.emitter
-            .code
-            .open_freeze(failed, walk.register, register);
+        self.emitter.code.open_freeze(failed, place, owner);
         self.emitter.code.begin_else();
         self.emitter.code.copy(code, failed);
-        self.emitter.code.drop_owner(register);
+        self.emitter.code.drop_owner(owner);
         self.emitter.code.end_part();
         self.emitter.code.usage.release(failed);
-        self.emitter.close_coded(&walk, handler, code)
     }
 
     pub fn begin_share(&mut self, statement: Statement) {
@@ -397,36 +403,44 @@ impl Compiler<'_> {
     pub fn share(&mut self, statement: Statement) {
         let source = self.emitter.pop_place();
         let place = self.emitter.pop_place();
-        for place in [place, source] {
-            if !matches!(
-                self.emitter.program.types.shape(place.value_type),
-                Shape::Of(Container::Shared, _)
-            ) {
-                return self.emitter.error_about(
-                    place.span,
-                    ErrorKind::SHARE_OF,
-                    About::of_type(place.value_type),
-                );
-            }
+        if !self.is_shared(&place) {
+            return self
+                .emitter
+                .type_error(place.span, ErrorKind::SHARE_OF, place.value_type);
+        }
+        if !self.is_shared(&source) {
+            return self
+                .emitter
+                .type_error(source.span, ErrorKind::SHARE_OF, source.value_type);
         }
         if place.value_type != source.value_type {
-            return self.emitter.error_about(
-                source.span,
-                ErrorKind::MISMATCH,
-                About::of_types(source.value_type, place.value_type),
-            );
+            let about = About::of_types(source.value_type, place.value_type);
+            return self
+                .emitter
+                .error_about(source.span, ErrorKind::MISMATCH, about);
         }
         self.emitter.check_changeable(&place);
         self.emitter.remove(&place, Removed::Below, statement.span);
-        let handler = if self.emitter.fallible(&place) == 0 && self.emitter.fallible(&source) == 0 {
-            Handler::Nothing
+        let handler = if self.emitter.fallible(&source) == 0 {
+            self.place_handler(statement, &place)
         } else {
             self.emitter.handler(statement)
         };
+        self.emit_share(&place, &source, handler)
+    }
+
+    fn is_shared(&self, place: &Place) -> bool {
+        matches!(
+            self.emitter.program.types.shape(place.value_type),
+            Shape::Of(Container::Shared, _)
+        )
+    }
+
+    fn emit_share(&mut self, place: &Place, source: &Place, handler: Handler) {
         let code = self.emitter.code.literal_held(0);
-        let walk = self.emitter.walk(&place, true);
+        let walk = self.emitter.walk(place, true);
         self.emitter.code.usage.hold(walk.register);
-        let other = self.emitter.walk(&source, false);
+        let other = self.emitter.walk(source, false);
         self.emitter
             .code
             .act(Operation::Share, walk.register, other.register.0);
@@ -463,30 +477,26 @@ impl Compiler<'_> {
             },
         ) = self.emitter.last_step(at)
         else {
-            return self
-                .emitter
-                .error(self.emitter.span_of(at), ErrorKind::NO_METHOD);
+            return self.emitter.error_at(at, ErrorKind::NO_METHOD);
         };
         let word = self.emitter.word(span);
         if !is_push(word) && !is_pop(word) {
             return self.emitter.error(span, ErrorKind::NO_METHOD);
         }
         let tree = self.emitter.tree;
-        let value = match tree.arguments(arguments) {
-            [] => None,
-            [value] if is_push(word) => Some(*value),
-            _ if is_push(word) => return self.emitter.error(span, ErrorKind::ONE_VALUE),
-            _ => return self.emitter.error(span, ErrorKind::NO_VALUE),
+        let value = match value_of(tree.arguments(arguments), is_push(word)) {
+            Ok(value) => value,
+            Err(kind) => return self.emitter.error(span, kind),
         };
+        let has_value = value.is_some();
         let finish = match (is_named, is_push(word)) {
-            (true, true) => Task::DoPush(statement, value.is_some()),
+            (true, true) => Task::DoPush(statement, has_value),
             (true, false) => Task::DoPop(statement),
-            (false, _) => Task::DoMethod(statement, value.is_some()),
+            (false, _) => Task::DoMethod(statement, has_value),
         };
         self.emitter.then(&[Task::Place(at, 1), finish]);
-        match value {
-            Some(value) => self.emitter.then(&[Task::Evaluate(value, None)]),
-            None => {}
+        if let Some(value) = value {
+            self.emitter.then(&[Task::Evaluate(value, None)])
         }
     }
 
@@ -504,17 +514,14 @@ impl Compiler<'_> {
             Some(item) if is_list || (is_at_end && shape.is_sequence()) => {
                 if has_value && item != TypeAt::INT {
                     self.emitter
-                        .error_about(step.span, ErrorKind::ITEM_IS_NO, About::of_type(item));
+                        .type_error(step.span, ErrorKind::ITEM_IS_NO, item);
                     return TypeAt::INT;
                 }
                 item
             }
             _ => {
-                self.emitter.error_about(
-                    step.span,
-                    ErrorKind::WRONG_METHOD,
-                    About::of_type(place.value_type),
-                );
+                self.emitter
+                    .type_error(step.span, ErrorKind::WRONG_METHOD, place.value_type);
                 TypeAt::INT
             }
         }
@@ -536,14 +543,7 @@ impl Compiler<'_> {
         if word != b"push".as_slice() {
             self.emitter.remove(&place, Removed::Below, statement.span);
         }
-        let value = if has_value {
-            Some(self.emitter.pop_value())
-        } else {
-            None
-        };
-        if let Some(value) = value {
-            self.emitter.code.usage.hold(value.register);
-        }
+        let value = self.hold_pushed(has_value);
         let handler = if is_push(word) {
             self.emitter.handler(statement)
         } else {
@@ -551,25 +551,43 @@ impl Compiler<'_> {
         };
         let code = self.emitter.code.literal_held(0);
         let walk = self.emitter.walk(&place, is_push(word));
+        self.emit_method(word, &walk, &place, value, item, code);
+        if let Some(value) = value {
+            self.emitter.code.usage.release(value);
+        }
+        self.emitter.close_coded(&walk, handler, code)
+    }
+
+    /// Emits a push or a pop at the end of a walk. If it fails, a register is set to the code.
+    fn emit_method(
+        &mut self,
+        word: &[u8],
+        walk: &Walk,
+        place: &Place,
+        value: Option<Register>,
+        item: TypeAt,
+        code: Register,
+    ) {
         let failed = self.emitter.code.take_held();
         if is_push(word) {
-            self.push_item(word, failed, &walk, &place, value, item);
+            self.push_item(word, failed, walk, place, value, item);
         } else {
-            let operation = match word {
-                b"pop" => Operation::PopBack,
-                _ => Operation::PopFront,
-            };
-            let registers = [failed.0, walk.register.0, 0];
-            self.emitter
-                .code
-                .open_change(operation, registers, failed, Known::Number);
+            self.pop_item(word, failed, walk);
         }
         self.emitter.code.close_noting(failed, code);
         self.emitter.code.usage.release(failed);
-        if let Some(value) = value {
-            self.emitter.code.usage.release(value.register);
-        }
-        self.emitter.close_coded(&walk, handler, code)
+    }
+
+    /// Opens the part of an item that is removed.
+    fn pop_item(&mut self, word: &[u8], register: Register, walk: &Walk) {
+        let operation = match word {
+            b"pop" => Operation::PopBack,
+            _ => Operation::PopFront,
+        };
+        let registers = [register.0, walk.register.0, 0];
+        self.emitter
+            .code
+            .open_change(operation, registers, register, Known::Number)
     }
 
     /// Opens the part of an item that is pushed, and sets it.
@@ -579,14 +597,14 @@ impl Compiler<'_> {
         register: Register,
         walk: &Walk,
         place: &Place,
-        value: Option<Value>,
+        value: Option<Register>,
         item: TypeAt,
     ) {
         if place.value_type == TypeAt::TEXT {
             let Some(value) = value else {
                 return self.emitter.error(place.span, ErrorKind::BYTE_WANTED);
             };
-            let registers = [register.0, walk.register.0, value.register.0];
+            let registers = [register.0, walk.register.0, value.0];
             return self.emitter.code.open(
                 Operation::AddByte,
                 registers,
@@ -596,13 +614,19 @@ impl Compiler<'_> {
             );
         }
         self.open_push(word == b"push".as_slice(), register, walk, item);
-        match value {
-            Some(value) => self
-                .emitter
-                .code
-                .act(Operation::Store, register, value.register.0),
-            None => {}
+        if let Some(value) = value {
+            self.emitter.code.act(Operation::Store, register, value.0)
         }
+    }
+}
+
+/// The value among a method's arguments, if it has one. Only a push may have one.
+fn value_of(arguments: &[ExpressionAt], is_push: bool) -> Result<Option<ExpressionAt>, ErrorKind> {
+    match arguments {
+        [] => Ok(None),
+        [value] if is_push => Ok(Some(*value)),
+        _ if is_push => Err(ErrorKind::ONE_VALUE),
+        _ => Err(ErrorKind::NO_VALUE),
     }
 }
 
@@ -612,6 +636,15 @@ fn is_push(word: &[u8]) -> bool {
 
 fn is_pop(word: &[u8]) -> bool {
     matches!(word, b"pop" | b"pop_front")
+}
+
+/// The error of setting a value with this shape, which isn't a number.
+fn unset_kind(shape: Shape) -> ErrorKind {
+    match shape {
+        Shape::Of(Container::Shared, _) => ErrorKind::SHARED_SET,
+        Shape::Struct(_) => ErrorKind::STRUCT_SET,
+        _ => ErrorKind::CONTAINER_SET,
+    }
 }
 
 /// The span of an assignment's operator.

@@ -117,8 +117,16 @@ impl<'t> Compiler<'t> {
 }
 
 impl<'t> Compiler<'t> {
+    /// The client with these parts, or why there is none.
+    pub fn finish(self, linked: Linked) -> Result<Compiled, Failure> {
+        if self.has_failed() {
+            return Err(self.into_failure());
+        }
+        Ok(self.into_compiled(linked))
+    }
+
     /// The client with these parts. Its warnings are in the order of the text.
-    pub fn into_compiled(self, linked: Linked) -> Compiled {
+    fn into_compiled(self, linked: Linked) -> Compiled {
         let Compiler { emitter, .. } = self;
         let Emitter { code, warnings, .. } = emitter;
         let Code { constants, .. } = code;
@@ -170,8 +178,14 @@ impl<'t> Compiler<'t> {
         linked
     }
 
-    /// Compiles the program's statements.
+    /// Reads the program's declarations, and compiles its statements.
     pub fn run(&mut self) {
+        self.emitter.declare();
+        self.do_tasks();
+        self.warn_unused()
+    }
+
+    fn do_tasks(&mut self) {
         self.begin_main();
         for _ in 0..MOST_TASKS {
             let Some(task) = self.emitter.tasks.pop() else {
@@ -243,27 +257,8 @@ impl<'t> Compiler<'t> {
     /// Lists the names which have a register, or the parts that are open, if there are too many.
     fn list_alive(&mut self, class: ErrorClass) {
         match class {
-            ErrorClass::Registers => {
-                for name in self.emitter.names.all() {
-                    if name.is_visible() && name.meaning.register().is_some() {
-                        append(
-                            &mut self.emitter.alive,
-                            name.span,
-                            &mut self.emitter.code.trouble,
-                        );
-                    }
-                }
-            }
-            ErrorClass::Depth => {
-                for at in 0..self.emitter.code.part_count() {
-                    let span = self.emitter.code.part_span(at);
-                    append(
-                        &mut self.emitter.alive,
-                        span,
-                        &mut self.emitter.code.trouble,
-                    );
-                }
-            }
+            ErrorClass::Registers => self.emitter.list_names(),
+            ErrorClass::Depth => self.emitter.list_parts(),
             _ => {}
         }
     }
@@ -424,13 +419,11 @@ impl<'t> Compiler<'t> {
         )
     }
 
-    /// Warns of each name which isn't used, unless it begins with `_`.
-    pub fn warn_unused(&mut self) {
+    /// Warns of each name which isn't used.
+    fn warn_unused(&mut self) {
         for at in 0..self.seen.len() {
             if let Some(seen) = self.seen.get(at).copied() {
-                if !seen.is_used && !self.emitter.word(seen.span).starts_with(b"_") {
-                    self.emitter.warn(seen.span, WarningKind::Unused);
-                }
+                self.warn_seen(seen);
             }
         }
         for at in 0..self.emitter.program.objects.len() {
@@ -439,6 +432,15 @@ impl<'t> Compiler<'t> {
                     self.emitter.warn(object.name, WarningKind::Unused);
                 }
             }
+        }
+    }
+}
+
+impl Compiler<'_> {
+    /// Warns of a name which isn't used, unless it begins with `_`.
+    fn warn_seen(&mut self, seen: Seen) {
+        if !seen.is_used && !self.emitter.word(seen.span).starts_with(b"_") {
+            self.emitter.warn(seen.span, WarningKind::Unused);
         }
     }
 }

@@ -31,23 +31,25 @@ impl From<AllocError> for Failure {
 /// Compiles a program for the types of an image. Types that the image doesn't have get the next
 /// numbers.
 pub fn compile(alloc: Global, tree: &Tree<'_>, image: &TypeTable) -> Result<Compiled, Failure> {
-    let program = Program {
+    let Ok(program) = new_program(alloc) else {
+        return Err(Failure::Memory);
+    };
+    let mut compiler = Compiler::new(alloc, tree, program, Code::new(alloc, NOWHERE));
+    compiler.run();
+    if compiler.has_failed() {
+        return Err(compiler.into_failure());
+    }
+    let linked = compiler.link(image);
+    compiler.finish(linked)
+}
+
+/// A program that declares nothing.
+fn new_program(alloc: Global) -> Result<Program, AllocError> {
+    Ok(Program {
         types: Types::new(alloc)?,
         values: Vec::new(alloc),
         objects: Vec::new(alloc),
         functions: Vec::new(alloc),
         fail: None,
-    };
-    let mut compiler = Compiler::new(alloc, tree, program, Code::new(alloc, NOWHERE));
-    compiler.emitter.declare();
-    compiler.run();
-    compiler.warn_unused();
-    if compiler.has_failed() {
-        return Err(compiler.into_failure());
-    }
-    let linked = compiler.link(image);
-    if compiler.has_failed() {
-        return Err(compiler.into_failure());
-    }
-    Ok(compiler.into_compiled(linked))
+    })
 }

@@ -4,7 +4,7 @@ use crate::compiler::Compiler;
 use client_code::Operation;
 use script_code::{
     About, ErrorKind, Key, Known, MOST_DIGITS, Meaning, NOWHERE, Operand, Place, Register, Root,
-    Shape, TypeAt, WayKind, append,
+    Shape, TypeAt, WayKind,
 };
 use script_syntax::{
     Block, Container, ExpressionAt, Held, Range, Span, Statement, StatementKind, Type, Value,
@@ -40,6 +40,16 @@ fn shows_names(statement: &Statement) -> bool {
     )
 }
 
+/// An item that is pushed, and gets a name.
+#[derive(Clone, Copy)]
+struct Push {
+    name: Span,
+    is_back: bool,
+    item: TypeAt,
+    /// The register of its number, if it has one.
+    pushed: Option<Register>,
+}
+
 impl Compiler<'_> {
     /// The name and the value of a `let` or an `if let`.
     fn named_value(&self, statement: &Statement) -> Option<(Span, Value)> {
@@ -55,13 +65,7 @@ impl Compiler<'_> {
         let Some((name, value)) = self.named_value(&statement) else {
             return self.emitter.skip();
         };
-        let word = self.emitter.word(name);
-        if self
-            .emitter
-            .program
-            .object_named(self.emitter.tree, word)
-            .is_some()
-        {
+        if self.is_object_name(name) {
             return self.emitter.error(name, ErrorKind::OBJECT_NAME);
         }
         if statement.body.is_some() {
@@ -71,14 +75,20 @@ impl Compiler<'_> {
             return self.emitter.skip();
         };
         if !self.emitter.is_place(at) || self.is_variable(at) {
-            return self.emitter.then(&[
-                Task::Evaluate(at, None),
-                Task::Fresh,
-                Task::BindNumber(name, MOST_DIGITS),
-            ]);
+            return self
+                .emitter
+                .then_fresh(at, Task::BindNumber(name, MOST_DIGITS));
         }
-        self.emitter
-            .then(&[Task::Place(at, 0), Task::DoLet(name, at)])
+        self.emitter.then_place(at, Task::DoLet(name, at))
+    }
+
+    fn is_object_name(&self, name: Span) -> bool {
+        let word = self.emitter.word(name);
+        let found = self
+            .emitter
+            .program
+            .object_named(self.emitter.tree, word);
+        found.is_some()
     }
 
     /// Whether an expression is the name of a number.
@@ -97,11 +107,7 @@ impl Compiler<'_> {
         let place = self.emitter.pop_place();
         if self.emitter.is_number(&place) {
             let digits = if place.is_length { 10 } else { MOST_DIGITS };
-            append(
-                &mut self.emitter.places,
-                place,
-                &mut self.emitter.code.trouble,
-            );
+            self.emitter.push_place(place);
             return self.emitter.then(&[
                 Task::Load(at, None),
                 Task::Fresh,
@@ -109,9 +115,7 @@ impl Compiler<'_> {
             ]);
         }
         if self.emitter.fallible(&place) > 0 {
-            return self
-                .emitter
-                .error(self.emitter.span_of(at), ErrorKind::LET_ABSENT);
+            return self.emitter.error_at(at, ErrorKind::LET_ABSENT);
         }
         if self.emitter.openers(&place) > 0 {
             return self.bind_place(name, place);
@@ -176,7 +180,7 @@ impl Compiler<'_> {
             ValueKind::New(written) => self.make_new(statement, name, written),
             ValueKind::Take(at) => self
                 .emitter
-                .then(&[Task::Place(at, 0), Task::DoTake(statement)]),
+                .then_place(at, Task::DoTake(statement)),
             ValueKind::Expression(at) if self.emitter.is_method(at) => {
                 self.begin_method(at, statement, true)
             }
@@ -185,21 +189,17 @@ impl Compiler<'_> {
                     return self.emitter.error(value.span, ErrorKind::NOT_LOOKUP);
                 }
                 self.emitter
-                    .then(&[Task::Place(at, 0), Task::DoLookup(statement)])
+                    .then_place(at, Task::DoLookup(statement))
             }
         }
     }
 
     fn make_new(&mut self, statement: Statement, name: Span, written: Type) {
-        let value_type = match self
-            .emitter
-            .program
-            .types
-            .written(self.emitter.tree, written, &mut self.emitter.code.trouble)
-        {
+        let value_type = match self.emitter.written_type(written) {
             Ok(found) => found,
             Err(span) => {
-                let near = self.emitter.near_struct(self.emitter.word(span));
+                let word = self.emitter.word(span);
+                let near = self.emitter.near_struct(word);
                 return self
                     .emitter
                     .error_about(span, ErrorKind::NO_TYPE, About::near(near));
@@ -214,6 +214,7 @@ impl Compiler<'_> {
             register,
             Known::Owner(value_type),
         );
+        self.emitter.code.usage.hold(register);
         self.own(statement, name, register, value_type, handler)
     }
 
@@ -227,7 +228,6 @@ impl Compiler<'_> {
         handler: Handler,
     ) {
         let names = self.emitter.names.len();
-        self.emitter.code.usage.hold(register);
         self.emitter.bind(
             name,
             Meaning::Owner {
@@ -235,13 +235,15 @@ impl Compiler<'_> {
                 value_type,
             },
         );
-        self.emitter.then(&[
-            body_task(&statement, names),
-            Task::Else,
-            Task::Handle(handler, register),
-            Task::EndPart,
-            Task::Release(register),
-        ])
+        self.emitter.then(&[Task::Release(register)]);
+        self.then_else(handler, register);
+        self.emitter.then(&[body_task(&statement, names)])
+    }
+
+    /// Ends the innermost part next. If it fails, the handler runs, with the code in a register.
+    fn then_else(&mut self, handler: Handler, code: Register) {
+        self.emitter
+            .then(&[Task::Else, Task::Handle(handler, code), Task::EndPart])
     }
 
     pub fn take_owned(&mut self, statement: Statement) {
@@ -251,11 +253,9 @@ impl Compiler<'_> {
         let place = self.emitter.pop_place();
         let shape = self.emitter.program.types.shape(place.value_type);
         let Shape::Of(Container::Own, content) = shape else {
-            return self.emitter.error_about(
-                place.span,
-                ErrorKind::TAKE_OF,
-                About::of_type(place.value_type),
-            );
+            return self
+                .emitter
+                .type_error(place.span, ErrorKind::TAKE_OF, place.value_type);
         };
         self.emitter.check_changeable(&place);
         let handler = self.lookup_handler(statement);
@@ -269,22 +269,9 @@ impl Compiler<'_> {
             register,
             Known::Owner(content),
         );
-        let names = self.emitter.names.len();
-        self.emitter.bind(
-            name,
-            Meaning::Owner {
-                register,
-                value_type: content,
-            },
-        );
-        self.emitter.then(&[
-            body_task(&statement, names),
-            Task::Else,
-            Task::Handle(handler, register),
-            Task::EndPart,
-            Task::Release(register),
-            Task::CloseWalk(walk, handler, code),
-        ])
+        self.emitter
+            .then(&[Task::CloseWalk(walk, handler, code)]);
+        self.own(statement, name, register, content, handler)
     }
 
     /// `if let` at the last place.
@@ -303,10 +290,21 @@ impl Compiler<'_> {
         if self.emitter.is_number(&place) {
             return self.look_up_number(statement, name, &place, handler);
         }
-        let names = self.emitter.names.len();
         if is_box {
             self.enter_one(&mut place);
         }
+        self.look_up_place(statement, name, place, handler)
+    }
+
+    fn look_up_place(
+        &mut self,
+        statement: Statement,
+        name: Span,
+        place: Place,
+        handler: Handler,
+    ) {
+        let mut place = place;
+        let names = self.emitter.names.len();
         self.keep_keys(&mut place, &[body_of(&statement)]);
         if self.emitter.is_flat {
             return self.look_up_flat(statement, name, &place, handler, names);
@@ -342,37 +340,57 @@ impl Compiler<'_> {
         place: &Place,
         handler: Handler,
     ) {
-        let digits = match self.emitter.last_way(place) {
-            _ if place.is_length => 10,
-            Some(WayKind::Byte(_)) => 3,
-            _ => MOST_DIGITS,
-        };
-        let names = self.emitter.names.len();
+        let digits = self.most_digits(place);
         if self.emitter.openers(place) == 1 && !self.emitter.is_flat {
-            let walk = self.emitter.walk(place, false);
-            let register = if walk.is_own() {
-                walk.register
-            } else {
-                self.emitter.code.take()
-            };
-            self.emitter.read_number(register, walk.register, place);
-            self.emitter
-                .bind(name, Meaning::short_number(register, digits));
-            return self.emitter.then(&[
-                body_task(&statement, names),
-                Task::CloseWalk(walk, handler, None),
-            ]);
+            return self.look_up_open(statement, name, place, handler, digits);
         }
-        let (register, code) = (
-            self.emitter.code.literal_held(0),
-            self.emitter.code.literal_held(0),
-        );
+        let names = self.emitter.names.len();
+        let register = self.emitter.code.literal_held(0);
+        let code = self.emitter.code.literal_held(0);
         let walk = self.emitter.walk(place, false);
         self.emitter.read_number(register, walk.register, place);
         self.emitter.close_noting(&walk, code);
         self.emitter.then(&[Task::Release(register)]);
         let bind = Task::BindSet(name, register, digits);
         self.branch_on(code, handler, bind, body_task(&statement, names))
+    }
+
+    /// The most digits of the number at a place.
+    fn most_digits(&self, place: &Place) -> usize {
+        match self.emitter.last_way(place) {
+            _ if place.is_length => 10,
+            Some(WayKind::Byte(_)) => 3,
+            _ => MOST_DIGITS,
+        }
+    }
+
+    /// Looks a number up whose walk opens one part, and does the body in that.
+    fn look_up_open(
+        &mut self,
+        statement: Statement,
+        name: Span,
+        place: &Place,
+        handler: Handler,
+        digits: usize,
+    ) {
+        let names = self.emitter.names.len();
+        let walk = self.emitter.walk(place, false);
+        let register = self.own_register(&walk);
+        self.emitter.read_number(register, walk.register, place);
+        self.emitter
+            .bind(name, Meaning::short_number(register, digits));
+        self.emitter.then(&[
+            body_task(&statement, names),
+            Task::CloseWalk(walk, handler, None),
+        ])
+    }
+
+    /// The register at the end of a walk if it belongs to the walk alone, or else a new one.
+    fn own_register(&mut self, walk: &Walk) -> Register {
+        if walk.is_own() {
+            return walk.register;
+        }
+        self.emitter.code.take()
     }
 
     /// Runs the handler if a register isn't 0. Otherwise releases it, binds a name, and does the body.
@@ -415,24 +433,18 @@ impl Compiler<'_> {
         let handler = self.emitter.handler(statement);
         if self.emitter.is_flat {
             let code = self.emitter.code.literal_held(0);
-            return self.emitter.then(&[
-                Task::Place(first.place, 0),
-                Task::HoldFlat(statement, 0, code),
-            ]);
+            let hold = Task::HoldFlat(statement, 0, code);
+            return self.emitter.then_place(first.place, hold);
         }
         if handler.is_nothing() || places.len() < 2 {
-            return self.emitter.then(&[
-                Task::Place(first.place, 0),
-                Task::Hold(statement, 0, None),
-            ]);
+            let hold = Task::Hold(statement, 0, None);
+            return self.emitter.then_place(first.place, hold);
         }
         let code = self.emitter.code.literal_held(0);
-        self.emitter.then(&[
-            Task::Place(first.place, 0),
-            Task::Hold(statement, 0, Some(code)),
-            Task::HandleIf(code, handler),
-            Task::Release(code),
-        ])
+        self.emitter
+            .then(&[Task::HandleIf(code, handler), Task::Release(code)]);
+        self.emitter
+            .then_place(first.place, Task::Hold(statement, 0, Some(code)))
     }
 
     /// The place of a `use` with this number, and the number of the places.
@@ -500,14 +512,14 @@ impl Compiler<'_> {
         let walk = self.emitter.walk(&place, true);
         self.bind_walk(name, &place, &walk);
         self.emitter.use_last_name();
-        let inner = self.emitter.names.len();
-        let [first, second] = self.after_held(&statement, number, code, inner);
         let close = match code {
             Some(code) => Task::CloseNoting(walk, code),
             None => Task::CloseWalk(walk, handler, own_code),
         };
-        self.emitter
-            .then(&[first, second, Task::EndScope(names), close])
+        self.emitter.then(&[Task::EndScope(names), close]);
+        let inner = self.emitter.names.len();
+        let [first, second] = self.after_held(&statement, number, code, inner);
+        self.emitter.then(&[first, second])
     }
 
     /// Finds or makes the last place, and binds it without holding it.
@@ -523,14 +535,19 @@ impl Compiler<'_> {
         self.emitter.close_noting(&walk, code);
         self.bind_place(name, place);
         self.emitter.use_last_name();
+        self.emitter.then(&[Task::EndScope(names)]);
         let next = number.saturating_add(1);
-        if let Some((held, _)) = self.held_place(&statement, next) {
-            return self.emitter.then(&[
-                Task::Place(held.place, 0),
-                Task::HoldFlat(statement, next, code),
-                Task::EndScope(names),
-            ]);
+        match self.held_place(&statement, next) {
+            Some((held, _)) => {
+                let hold = Task::HoldFlat(statement, next, code);
+                self.emitter.then_place(held.place, hold)
+            }
+            None => self.do_flat(statement, code),
         }
+    }
+
+    /// The body of a `use` whose places were found or made, unless a register has a code.
+    fn do_flat(&mut self, statement: Statement, code: Register) {
         let handler = self.emitter.handler(statement);
         self.emitter.code.open_if(code);
         let inner = self.emitter.names.len();
@@ -540,7 +557,6 @@ impl Compiler<'_> {
             Task::Release(code),
             Task::Body(body_of(&statement), inner, true),
             Task::EndPart,
-            Task::EndScope(names),
         ])
     }
 
@@ -562,45 +578,65 @@ impl Compiler<'_> {
         if !is_back {
             self.emitter.remove(&place, Removed::Below, statement.span);
         }
-        let pushed = self.hold_pushed(has_value);
+        let push = Push {
+            name,
+            is_back,
+            item,
+            pushed: self.hold_pushed(has_value),
+        };
         let handler = self.lookup_handler(statement);
         let names = self.emitter.names.len();
         self.keep_keys(&mut place, &[body_of(&statement)]);
-        let code = self.emitter.code_register(&place, handler);
+        self.bind_pushed(statement, &push, &place, handler, names)
+    }
+
+    /// Pushes an item, binds it, and does the body. The names begin at a position.
+    fn bind_pushed(
+        &mut self,
+        statement: Statement,
+        push: &Push,
+        place: &Place,
+        handler: Handler,
+        names: usize,
+    ) {
+        let code = self.emitter.code_register(place, handler);
         let index = self.emitter.code.literal_held(0);
-        let walk = self.emitter.walk(&place, true);
-        if is_back {
-            self.emitter.code.read(Operation::Len, index, walk.register);
-        }
-        let register = if walk.is_own() {
-            walk.register
-        } else {
-            self.emitter.code.take()
-        };
-        self.emitter.code.usage.hold(register);
-        self.open_push(is_back, register, &walk, item);
-        if let Some(pushed) = pushed {
-            self.emitter.code.act(Operation::Store, register, pushed.0);
-        }
-        self.bind_item(name, register, index, &place, item);
-        let pushed = match pushed {
+        let walk = self.emitter.walk(place, true);
+        let register = self.push_at(push, &walk, index);
+        self.bind_item(push.name, register, index, place, push.item);
+        let release = match push.pushed {
             Some(pushed) => Task::Release(pushed),
             None => Task::At(statement.span),
         };
+        self.emitter
+            .then(&[Task::Release(register), Task::CloseWalk(walk, handler, code)]);
         self.emitter.then(&[
             body_task(&statement, names),
             Task::Else,
             Task::Release(index),
-            pushed,
+            release,
             Task::Handle(handler, register),
             Task::EndPart,
-            Task::Release(register),
-            Task::CloseWalk(walk, handler, code),
         ])
     }
 
+    /// Opens the part of an item that is pushed at the end of a walk, and returns its register. The
+    /// other register is set to its index.
+    fn push_at(&mut self, push: &Push, walk: &Walk, index: Register) -> Register {
+        if push.is_back {
+            self.emitter.code.read(Operation::Len, index, walk.register);
+        }
+        let register = self.own_register(walk);
+        self.emitter.code.usage.hold(register);
+        self.open_push(push.is_back, register, walk, push.item);
+        if let Some(pushed) = push.pushed {
+            self.emitter.code.act(Operation::Store, register, pushed.0);
+        }
+        register
+    }
+
     /// Keeps the register of the number to push, if there is one.
-    fn hold_pushed(&mut self, has_value: bool) -> Option<Register> {
+    pub fn hold_pushed(&mut self, has_value: bool) -> Option<Register> {
         if !has_value {
             return None;
         }
@@ -665,16 +701,26 @@ impl Compiler<'_> {
         if item != TypeAt::INT {
             return self
                 .emitter
-                .error_about(value.span, ErrorKind::ITEM_GOES, About::of_type(item));
+                .type_error(value.span, ErrorKind::ITEM_GOES, item);
         }
         self.emitter.check_changeable(&place);
         let handler = self.lookup_handler(statement);
-        let (register, code) = (
-            self.emitter.code.literal_held(0),
-            self.emitter.code.literal_held(NO_ITEM),
-        );
-        self.emitter.remove(&place, Removed::Below, statement.span);
-        let walk = self.emitter.walk(&place, false);
+        self.bind_popped(statement, name, is_back, &place, handler)
+    }
+
+    /// Removes an item, binds its number, and does the body.
+    fn bind_popped(
+        &mut self,
+        statement: Statement,
+        name: Span,
+        is_back: bool,
+        place: &Place,
+        handler: Handler,
+    ) {
+        let register = self.emitter.code.literal_held(0);
+        let code = self.emitter.code.literal_held(NO_ITEM);
+        self.emitter.remove(place, Removed::Below, statement.span);
+        let walk = self.emitter.walk(place, false);
         self.take_item(is_back, register, code, &walk, place.value_type);
         self.emitter.close_noting(&walk, code);
         let names = self.emitter.names.len();
@@ -698,19 +744,7 @@ impl Compiler<'_> {
             self.emitter.code.read(Operation::Len, index, from);
             self.emitter.code.add(index, -1);
         }
-        let known = match value_type {
-            TypeAt::TEXT => Known::Number,
-            _ => Known::Reference {
-                class: self.emitter.code.class_of(from),
-                value_type: TypeAt::INT,
-                is_frozen: false,
-            },
-        };
-        let registers = [register.0, from.0, index.0];
-        self.emitter.code.open(Operation::At, registers, Operand::Plain(0), register, known);
-        if value_type != TypeAt::TEXT {
-            self.emitter.code.read(Operation::Load, register, register);
-        }
+        self.load_item(register, from, index, value_type);
         self.emitter.code.number(code, 0);
         self.emitter.code.close();
         let operation = if is_back {
@@ -723,6 +757,25 @@ impl Compiler<'_> {
             .open_change(operation, [index.0, from.0, 0], index, Known::Number);
         self.emitter.code.close();
         self.emitter.code.usage.release(index);
+    }
+
+    /// Opens the part that has an item, and reads its number.
+    fn load_item(&mut self, to: Register, from: Register, index: Register, value_type: TypeAt) {
+        let is_text = value_type == TypeAt::TEXT;
+        let known = if is_text {
+            Known::Number
+        } else {
+            Known::Reference {
+                class: self.emitter.code.class_of(from),
+                value_type: TypeAt::INT,
+                is_frozen: false,
+            }
+        };
+        let registers = [to.0, from.0, index.0];
+        self.emitter.code.open(Operation::At, registers, Operand::Plain(0), to, known);
+        if !is_text {
+            self.emitter.code.read(Operation::Load, to, to);
+        }
     }
 
     fn check_method(&mut self, value: Value, place: &Place, has_value: bool) -> TypeAt {

@@ -4,8 +4,8 @@ use crate::compiler::{Compiler, Construct, ConstructKind};
 use crate::lookups::body_of;
 use client_code::Operation;
 use script_code::{
-    About, COUNT, ErrorKind, Key, Known, MOST_DIGITS, Meaning, Operand, Place, Register, Shape,
-    TypeAt, WayKind, append,
+    COUNT, ErrorKind, Key, Known, MOST_DIGITS, Meaning, Operand, Place, Register, Shape, TypeAt,
+    WayKind, append,
 };
 use script_syntax::{ExpressionAt, Source, Span, Statement, StatementKind};
 use script_values::{End, Handler, Loop, Task, Turn, decimal_digits};
@@ -25,65 +25,55 @@ impl Compiler<'_> {
             return;
         };
         match source {
-            Source::Input(_) => {
-                if let Some(key) = key {
-                    return self.emitter.error(key, ErrorKind::INPUT_PAIR);
-                }
-                let turns = match max {
-                    Some(max) => self.emitter.turns(max),
-                    None => MOST_INPUT,
-                };
-                self.begin_input(statement, turns)
-            }
-            Source::Numbers(first, end) => {
-                if let Some(key) = key {
-                    return self.emitter.error(key, ErrorKind::RANGE_PAIR);
-                }
-                self.begin_numbers(statement, first, end)
-            }
+            Source::Input(_) => match key {
+                Some(key) => self.emitter.error(key, ErrorKind::INPUT_PAIR),
+                None => self.begin_input(statement, max),
+            },
+            Source::Numbers(first, end) => match key {
+                Some(key) => self.emitter.error(key, ErrorKind::RANGE_PAIR),
+                None => self.begin_numbers(statement, first, end),
+            },
             Source::Place(at) => {
                 if !self.emitter.is_place(at) {
-                    return self
-                        .emitter
-                        .error(self.emitter.span_of(at), ErrorKind::NO_SOURCE);
+                    return self.emitter.error_at(at, ErrorKind::NO_SOURCE);
                 }
-                self.emitter
-                    .then(&[Task::Place(at, 0), Task::DoItems(statement)])
+                self.emitter.then_place(at, Task::DoItems(statement))
             }
         }
     }
 
-    fn begin_input(&mut self, statement: Statement, turns: i32) {
+    fn begin_input(&mut self, statement: Statement, max: Option<ExpressionAt>) {
+        let turns = match max {
+            Some(max) => self.emitter.turns(max),
+            None => MOST_INPUT,
+        };
         let go = self.emitter.code.literal_held(1);
         let byte = self.emitter.code.take_held();
-        self.emitter.then(&[
-            Task::BeginLoop(Loop {
-                statement,
-                go,
-                turns,
-                is_flat: self.emitter.is_flat,
-                turn: Turn::Input(byte),
-            }),
-            Task::Release(byte),
-            Task::Release(go),
-        ])
+        self.emitter.then(&[Task::Release(byte), Task::Release(go)]);
+        self.then_loop(statement, go, turns, Turn::Input(byte))
+    }
+
+    /// Begins a loop next.
+    fn then_loop(&mut self, statement: Statement, go: Register, turns: i32, turn: Turn) {
+        let found = Loop {
+            statement,
+            go,
+            turns,
+            is_flat: self.emitter.is_flat,
+            turn,
+        };
+        self.emitter.then(&[Task::BeginLoop(found)])
     }
 
     fn begin_numbers(&mut self, statement: Statement, first: ExpressionAt, end: ExpressionAt) {
         if self.emitter.known_number(end).is_some() {
-            return self.emitter.then(&[
-                Task::Evaluate(first, None),
-                Task::Fresh,
-                Task::DoNumbers(statement),
-            ]);
+            return self
+                .emitter
+                .then_fresh(first, Task::DoNumbers(statement));
         }
-        self.emitter.then(&[
-            Task::Evaluate(first, None),
-            Task::Fresh,
-            Task::Evaluate(end, None),
-            Task::Fresh,
-            Task::DoNumbers(statement),
-        ])
+        self.emitter.then_fresh(end, Task::DoNumbers(statement));
+        self.emitter
+            .then(&[Task::Evaluate(first, None), Task::Fresh])
     }
 
     /// A loop over numbers, after its first number and its end, if that isn't known.
@@ -96,51 +86,65 @@ impl Compiler<'_> {
         else {
             return;
         };
-        let (low, high) = (
-            self.emitter.known_number(first),
-            self.emitter.known_number(last),
-        );
+        let low = self.emitter.known_number(first);
+        let high = self.emitter.known_number(last);
         let end = match high {
             Some(high) => End::Literal(high),
-            None => {
-                let register = self.emitter.pop_value().register;
-                self.emitter.code.usage.hold(register);
-                End::Register(register)
-            }
+            None => End::Register(self.hold_value()),
         };
-        let index = self.emitter.pop_value().register;
-        self.emitter.code.usage.hold(index);
-        let turns = match (max, low, high) {
+        let index = self.hold_value();
+        let turns = self.number_turns(statement.span, max, low, high);
+        let turn = Turn::Numbers {
+            index,
+            end,
+            digits: digits_between(low, high),
+            is_positive: matches!(low, Some(low) if low >= 0),
+        };
+        self.open_numbers(statement, turns, index, end, turn)
+    }
+
+    /// Keeps the register of the last number.
+    fn hold_value(&mut self) -> Register {
+        let register = self.emitter.pop_value().register;
+        self.emitter.code.usage.hold(register);
+        register
+    }
+
+    /// The most turns of a loop over numbers, of which some are known.
+    fn number_turns(
+        &mut self,
+        span: Span,
+        max: Option<ExpressionAt>,
+        low: Option<i64>,
+        high: Option<i64>,
+    ) -> i32 {
+        match (max, low, high) {
             (Some(max), _, _) => self.emitter.turns(max),
-            (None, Some(low), Some(high)) => {
-                self.known_turns(statement.span, high.saturating_sub(low))
+            (None, Some(low), Some(high)) => self.known_turns(span, high.saturating_sub(low)),
+            _ => {
+                self.emitter.error(span, ErrorKind::LOOP_BOUND);
+                1
             }
-            _ => return self.emitter.error(statement.span, ErrorKind::LOOP_BOUND),
-        };
-        let digits = digits_between(low, high);
+        }
+    }
+
+    fn open_numbers(
+        &mut self,
+        statement: Statement,
+        turns: i32,
+        index: Register,
+        end: End,
+        turn: Turn,
+    ) {
         let go = self.emitter.code.take_held();
         self.test_index(go, index, end);
         let release = match end {
             End::Register(register) => Task::Release(register),
             End::Literal(_) => Task::At(statement.span),
         };
-        self.emitter.then(&[
-            Task::BeginLoop(Loop {
-                statement,
-                go,
-                turns,
-                is_flat: self.emitter.is_flat,
-                turn: Turn::Numbers {
-                    index,
-                    end,
-                    digits,
-                    is_positive: matches!(low, Some(low) if low >= 0),
-                },
-            }),
-            Task::Release(go),
-            Task::Release(index),
-            release,
-        ])
+        self.emitter
+            .then(&[Task::Release(go), Task::Release(index), release]);
+        self.then_loop(statement, go, turns, turn)
     }
 
     fn known_turns(&mut self, span: Span, count: i64) -> i32 {
@@ -179,22 +183,28 @@ impl Compiler<'_> {
         self.emitter.enter_content(&mut place);
         let shape = self.emitter.program.types.shape(place.value_type);
         if place.is_length || shape.item().is_none() {
-            return self.emitter.error_about(
-                self.emitter.span_of(at),
-                ErrorKind::NOT_CONTAINER,
-                About::of_type(place.value_type),
-            );
+            let span = self.emitter.span_of(at);
+            return self
+                .emitter
+                .type_error(span, ErrorKind::NOT_CONTAINER, place.value_type);
         }
         let turns = self.emitter.needed_turns(statement.span, max);
         let names = self.emitter.names.len();
+        self.emitter.then(&[Task::EndScope(names)]);
         self.keep_keys(&mut place, &[body_of(&statement)]);
-        let (key, go) = (
-            self.emitter.code.literal_held(0),
-            self.emitter.code.literal_held(0),
-        );
-        let walk = self.emitter.walk(&place, false);
+        let key = self.emitter.code.literal_held(0);
+        let go = self.emitter.code.literal_held(0);
+        self.find_first(&place, key, go);
+        self.emitter.then(&[Task::Release(key), Task::Release(go)]);
+        self.then_loop(statement, go, turns, Turn::Items { place, key })
+    }
+
+    /// Sets a register to whether a container has items, and the key to the first one.
+    fn find_first(&mut self, place: &Place, key: Register, go: Register) {
+        let is_map = self.emitter.program.types.shape(place.value_type).is_map();
+        let walk = self.emitter.walk(place, false);
         self.emitter.code.read(Operation::Len, go, walk.register);
-        if shape.is_map() {
+        if is_map {
             self.open_key(Operation::FirstKey, key, walk.register, 0);
             self.emitter.code.close();
         } else {
@@ -202,19 +212,7 @@ impl Compiler<'_> {
             self.emitter.code.compute(Operation::Less, go, zero, go);
             self.emitter.code.usage.free(zero);
         }
-        self.emitter.close_walk(&walk);
-        self.emitter.then(&[
-            Task::BeginLoop(Loop {
-                statement,
-                go,
-                turns,
-                is_flat: self.emitter.is_flat,
-                turn: Turn::Items { place, key },
-            }),
-            Task::Release(key),
-            Task::Release(go),
-            Task::EndScope(names),
-        ])
+        self.emitter.close_walk(&walk)
     }
 
     fn open_key(&mut self, operation: Operation, key: Register, map: Register, after: u8) {
@@ -228,25 +226,16 @@ impl Compiler<'_> {
         };
         let turns = self.emitter.needed_turns(statement.span, max);
         let go = self.emitter.code.take_held();
-        self.emitter.then(&[
-            Task::Evaluate(condition, Some(go)),
-            Task::MoveTo(go),
-            Task::BeginLoop(Loop {
-                statement,
-                go,
-                turns,
-                is_flat: self.emitter.is_flat,
-                turn: Turn::While(condition),
-            }),
-            Task::Release(go),
-        ])
+        self.emitter.then(&[Task::Release(go)]);
+        self.then_loop(statement, go, turns, Turn::While(condition));
+        self.emitter
+            .then(&[Task::Evaluate(condition, Some(go)), Task::MoveTo(go)])
     }
 
     /// Begins a loop whose first test is done.
     pub fn begin_loop(&mut self, found: Loop) {
         self.emitter.code.usage.tidy();
-        self.emitter.then(&[Task::SetFlat(self.emitter.is_flat)]);
-        self.emitter.is_flat = false;
+        self.leave_flat();
         self.push_construct(ConstructKind::Loop(found));
         self.start_loop()
     }
@@ -259,12 +248,7 @@ impl Compiler<'_> {
         let ConstructKind::Loop(found) = construct.kind else {
             return self.emitter.skip();
         };
-        let forgets = construct.forgets;
-        for index in 0..COUNT {
-            if forgets[index] {
-                self.emitter.code.forget(Register(index as u8));
-            }
-        }
+        self.forget_registers(&construct.forgets);
         self.start_running();
         self.emitter.code.open_loop(found.go, found.turns);
         if let Some(running) = self.running() {
@@ -272,6 +256,14 @@ impl Compiler<'_> {
         }
         self.emitter.then(&[Task::EndLoop]);
         self.begin_turn(found)
+    }
+
+    fn forget_registers(&mut self, forgets: &[bool; COUNT]) {
+        for index in 0..COUNT {
+            if forgets[index] {
+                self.emitter.code.forget(Register(index as u8));
+            }
+        }
     }
 
     fn begin_turn(&mut self, found: Loop) {
@@ -284,15 +276,7 @@ impl Compiler<'_> {
         };
         match found.turn {
             Turn::Input(byte) => {
-                self.emitter.code.open(
-                    Operation::GetByte,
-                    [byte.0, 0, 0],
-                    Operand::Plain(0),
-                    byte,
-                    Known::Number,
-                );
-                self.emitter
-                    .bind(name, Meaning::loop_number(byte, 3, false));
+                self.open_input(name, byte);
                 self.emitter.then(&[Task::Body(block, names, false), Task::EndInput(found.go)])
             }
             Turn::Numbers {
@@ -316,6 +300,19 @@ impl Compiler<'_> {
         }
     }
 
+    /// Opens the part of a turn that has a byte of the input.
+    fn open_input(&mut self, name: Span, byte: Register) {
+        self.emitter.code.open(
+            Operation::GetByte,
+            [byte.0, 0, 0],
+            Operand::Plain(0),
+            byte,
+            Known::Number,
+        );
+        self.emitter
+            .bind(name, Meaning::loop_number(byte, 3, false))
+    }
+
     /// Binds the key and the item of a turn.
     fn begin_item(
         &mut self,
@@ -326,39 +323,50 @@ impl Compiler<'_> {
         register: Register,
     ) {
         let names = self.emitter.names.len();
-        let shape = self.emitter.program.types.shape(place.value_type);
-        let is_map = shape.is_map();
         let body = Task::Body(body_of(&found.statement), names, false);
-        let next = Task::NextTurn(found);
-        let digits = if is_map { MOST_DIGITS } else { 10 };
+        let is_map = self.emitter.program.types.shape(place.value_type).is_map();
         let (key, item) = match key {
             Some(key) => (Some(key), Some(name)),
             None if is_map => (Some(name), None),
             None => (None, Some(name)),
         };
         if let Some(key) = key {
+            let digits = if is_map { MOST_DIGITS } else { 10 };
             self.emitter
                 .bind(key, Meaning::loop_number(register, digits, !is_map));
         }
-        let (Some(item), Some(item_type)) = (item, shape.item()) else {
+        match item {
+            Some(item) => self.bind_turn(found, item, place, register, body),
+            None => self.emitter.then(&[body, Task::NextTurn(found)]),
+        }
+    }
+
+    /// Binds the item of a turn, and does the body.
+    fn bind_turn(
+        &mut self,
+        found: Loop,
+        name: Span,
+        place: &Place,
+        register: Register,
+        body: Task,
+    ) {
+        let next = Task::NextTurn(found);
+        let shape = self.emitter.program.types.shape(place.value_type);
+        let Some(item_type) = shape.item() else {
             return self.emitter.then(&[body, next]);
         };
-        let kind = match shape {
-            Shape::Text => WayKind::Byte(Key::Register(register)),
-            _ if is_map => WayKind::Key(Key::Register(register)),
-            _ => WayKind::Item(Key::Register(register)),
-        };
+        let kind = item_way(shape, Key::Register(register));
         let place = self.emitter.longer_place(place, kind, item_type);
         if item_type == TypeAt::INT {
             let digits = if shape == Shape::Text { 3 } else { MOST_DIGITS };
-            return self.begin_number_item(item, &place, digits, body, next);
+            return self.begin_number_item(name, &place, digits, body, next);
         }
         if found.is_flat {
-            self.bind_place(item, place);
+            self.bind_place(name, place);
             return self.emitter.then(&[body, next]);
         }
         let walk = self.emitter.walk(&place, false);
-        self.bind_walk(item, &place, &walk);
+        self.bind_walk(name, &place, &walk);
         self.emitter.then(&[body, Task::CloseWalk(walk, Handler::Nothing, None), next])
     }
 
@@ -371,9 +379,7 @@ impl Compiler<'_> {
         next: Task,
     ) {
         let register = self.emitter.code.literal_held(0);
-        let walk = self.emitter.walk(place, false);
-        self.emitter.read_number(register, walk.register, place);
-        self.emitter.close_walk(&walk);
+        self.emitter.read_place(register, place);
         self.emitter
             .bind(name, Meaning::loop_number(register, digits, false));
         self.emitter.then(&[body, next, Task::Release(register)])
@@ -453,13 +459,10 @@ impl Compiler<'_> {
         }
         self.emitter.code.usage.tidy();
         self.emitter.code.span = found.statement.span;
-        match found.statement.otherwise {
-            Some(part) => {
-                self.emitter.code.open_if(found.go);
-                self.emitter
-                    .then(&[Task::Block(part.block), Task::Else, Task::EndPart])
-            }
-            None => {}
+        if let Some(part) = found.statement.otherwise {
+            self.emitter.code.open_if(found.go);
+            self.emitter
+                .then(&[Task::Block(part.block), Task::Else, Task::EndPart])
         }
     }
 
@@ -473,18 +476,14 @@ impl Compiler<'_> {
             let known = before.known(register);
             if known != Known::Nothing && known != self.emitter.code.known(register) {
                 if matches!(known, Known::Owner(_)) {
-                    self.emitter
-                        .error(self.emitter.code.span, ErrorKind::MOVED_IN_LOOP);
+                    self.emitter.error_here(ErrorKind::MOVED_IN_LOOP);
                     return false;
                 }
                 forgets[index] = true;
                 has_more = true;
             }
         }
-        if self.ends_outer_names(construct) {
-            has_more = true;
-        }
-        if !has_more {
+        if !has_more && !self.ends_outer_names(construct) {
             return false;
         }
         let kept = self.emitter.code.ended.len();
@@ -539,6 +538,15 @@ impl Compiler<'_> {
         if let Some(construct) = self.constructs.last_mut() {
             construct.mark = mark;
         }
+    }
+}
+
+/// The step to an item of a container.
+fn item_way(shape: Shape, key: Key) -> WayKind {
+    match shape {
+        Shape::Text => WayKind::Byte(key),
+        _ if shape.is_map() => WayKind::Key(key),
+        _ => WayKind::Item(key),
     }
 }
 

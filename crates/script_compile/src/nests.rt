@@ -311,9 +311,7 @@ impl Compiler<'_> {
     /// Begins the nest again, with one more register.
     fn restart_nest(&mut self, nest: Nest) {
         if nest.wanted >= COUNT {
-            return self
-                .emitter
-                .error(self.emitter.code.span, ErrorKind::OUT_OF_REGISTERS);
+            return self.emitter.error_here(ErrorKind::OUT_OF_REGISTERS);
         }
         self.go_back(&nest.mark);
         if let Some(nest) = self.nests.last_mut() {
@@ -356,8 +354,7 @@ impl Compiler<'_> {
                 Meaning::Number { register, .. } => add(&mut used, register),
                 Meaning::Place { place, .. } => self.add_keys(&mut used, &place, first),
                 Meaning::Owner { .. } => {
-                    self.emitter
-                        .error(self.emitter.code.span, ErrorKind::TOO_DEEP);
+                    self.emitter.error_here(ErrorKind::TOO_DEEP);
                     return [false; COUNT]
                 },
                 Meaning::Hidden(_) | Meaning::Unknown => {}
@@ -369,7 +366,7 @@ impl Compiler<'_> {
     /// Adds the registers of a place's keys.
     fn add_keys(&mut self, used: &mut [bool; COUNT], place: &Place, first: usize) {
         for at in place.first..place.end {
-            if let Some(way) = self.emitter.ways.get(at) {
+            if let Some(way) = self.emitter.ways.get(at).copied() {
                 if let Some(Key::Register(register)) = way.kind.key() {
                     add(used, register);
                 }
@@ -378,9 +375,7 @@ impl Compiler<'_> {
         match place.root {
             Root::Element(_, Key::Register(register)) => add(used, register),
             Root::Owner(name) | Root::Number(name) if name >= first => {
-                return self
-                    .emitter
-                    .error(self.emitter.code.span, ErrorKind::TOO_DEEP);
+                self.emitter.error_here(ErrorKind::TOO_DEEP)
             }
             _ => {}
         }

@@ -3,7 +3,8 @@
 use crate::compiler::Compiler;
 use client_code::Operation;
 use script_code::{
-    About, Class, ErrorKind, Key, Known, NONE, ObjectKind, Operand, Place, Root, Shape,
+    Class, ErrorKind, Key, Known, NONE, Object, ObjectKind, Operand, Place, Register, Root, Shape,
+    TypeAt,
 };
 use script_syntax::{Container, ExpressionAt, Span, Statement, StatementKind, Step, StepKind};
 use script_values::{Removed, Task};
@@ -11,37 +12,43 @@ use script_values::{Removed, Task};
 impl Compiler<'_> {
     pub fn begin_delete(&mut self, statement: Statement, at: ExpressionAt) {
         let span = self.emitter.span_of(at);
-        let word = self.emitter.word(span);
-        let object = if self.emitter.names.find(self.emitter.tree, word).is_some() {
-            None
-        } else {
-            self.emitter.program.object_named(self.emitter.tree, word)
-        };
         let Some(steps) = self.emitter.steps_of(at, 0) else {
             return self.emitter.error(span, ErrorKind::DELETED_VALUE);
         };
-        let kind = match object {
-            Some(object) => self.emitter.kind_of(object),
-            None => None,
-        };
-        let steps = self.emitter.tree.steps(steps);
-        let is_element = steps.len() == 1 && matches!(kind, Some(ObjectKind::Family));
-        if let (Some(ObjectKind::Array(_)), Some(object)) = (kind, object) {
-            if !steps.is_empty() {
-                return self.emitter.error(span, ErrorKind::ARRAY_DELETED_WHOLE);
+        let tree = self.emitter.tree;
+        let steps = tree.steps(steps);
+        let found = self.deleted_object(span);
+        match (found, steps) {
+            (Some((object, ObjectKind::Array(_))), []) => self.delete_object(object, None, span),
+            (Some((_, ObjectKind::Array(_))), _) => {
+                self.emitter.error(span, ErrorKind::ARRAY_DELETED_WHOLE)
             }
-            return self.delete_object(object, None, span);
+            (Some((_, ObjectKind::Family)), [_]) | (Some(_), []) => {
+                self.emitter.then_place(at, Task::DoDelete(statement))
+            }
+            _ => self.begin_delete_item(statement, at, steps),
         }
+    }
+
+    /// The object that a name stands for, and its kind. A local name hides an object.
+    fn deleted_object(&self, span: Span) -> Option<(usize, ObjectKind)> {
+        let word = self.emitter.word(span);
+        if self.emitter.names.find(self.emitter.tree, word).is_some() {
+            return None;
+        }
+        let at = self.emitter.program.object_named(self.emitter.tree, word)?;
+        Some((at, self.emitter.kind_of(at)?))
+    }
+
+    fn begin_delete_item(&mut self, statement: Statement, at: ExpressionAt, steps: &[Step]) {
         match steps.last() {
-            Some(step) if !is_element => match step.kind {
-                StepKind::Index(key) => self.begin_delete_key(statement, at, key),
-                _ => self.emitter.error(span, ErrorKind::DELETED_VALUE),
-            },
-            _ if object.is_some() => {
-                self.emitter
-                    .then(&[Task::Place(at, 0), Task::DoDelete(statement)])
-            }
-            _ => self.emitter.error(span, ErrorKind::DELETED_VALUE),
+            Some(
+                Step {
+                    kind: StepKind::Index(key),
+                    ..
+                },
+            ) => self.begin_delete_key(statement, at, *key),
+            _ => self.emitter.error_at(at, ErrorKind::DELETED_VALUE),
         }
     }
 
@@ -74,19 +81,21 @@ impl Compiler<'_> {
         };
         self.emitter.enter_content(&mut place);
         if !self.emitter.program.types.shape(place.value_type).is_map() {
-            return self.emitter.error_about(
-                span,
-                ErrorKind::DELETED_ITEM,
-                About::of_type(place.value_type),
-            );
+            return self
+                .emitter
+                .type_error(span, ErrorKind::DELETED_ITEM, place.value_type);
         }
         self.emitter.check_changeable(&place);
         self.emitter
             .remove(&place, Removed::Key(key), statement.span);
+        self.emit_delete_key(&place, key)
+    }
+
+    fn emit_delete_key(&mut self, place: &Place, key: Key) {
         if let Key::Register(register) = key {
             self.emitter.code.usage.hold(register);
         }
-        let walk = self.emitter.walk(&place, false);
+        let walk = self.emitter.walk(place, false);
         let (register, is_own) = self.emitter.key_register(key);
         let result = self.emitter.code.take();
         self.emitter
@@ -130,43 +139,49 @@ impl Compiler<'_> {
             span,
             ..Place::NONE
         };
-        self.emitter
-            .remove(&place, Removed::Whole, self.emitter.code.span);
+        let here = self.emitter.code.span;
+        self.emitter.remove(&place, Removed::Whole, here);
         let result = self.emitter.code.take();
-        if found.kind == ObjectKind::Unique {
-            let operand = Operand::Type(found.value_type);
-            self.emitter
-                .code
-                .emit(Operation::KillUnique, [result.0, 0, 0], operand);
-            self.emitter.code.end_class(Class::Unique(found.value_type));
-        } else {
-            let number = match key {
-                Some(key) => self.emitter.key_register(key).0.0,
-                None => NONE,
-            };
-            let operand = Operand::Named(found.value_type, found.constant);
-            self.emitter
-                .code
-                .emit(Operation::Kill, [result.0, number, 0], operand);
-            self.emitter.code.end_class(Class::Named(found.constant));
+        match found.kind {
+            ObjectKind::Unique => self.emit_kill_unique(found.value_type, result),
+            _ => self.emit_kill(found, key, result),
         }
         self.emitter.code.set_number(result);
+    }
+
+    fn emit_kill_unique(&mut self, value_type: TypeAt, result: Register) {
+        let operand = Operand::Type(value_type);
+        self.emitter
+            .code
+            .emit(Operation::KillUnique, [result.0, 0, 0], operand);
+        self.emitter.code.end_class(Class::Unique(value_type))
+    }
+
+    fn emit_kill(&mut self, object: Object, key: Option<Key>, result: Register) {
+        let number = match key {
+            Some(key) => {
+                let (register, _) = self.emitter.key_register(key);
+                register.0
+            }
+            None => NONE,
+        };
+        let operand = Operand::Named(object.value_type, object.constant);
+        self.emitter
+            .code
+            .emit(Operation::Kill, [result.0, number, 0], operand);
+        self.emitter.code.end_class(Class::Named(object.constant))
     }
 
     pub fn clear(&mut self, statement: Statement, at: ExpressionAt) {
         let place = self.emitter.pop_place();
         if place.is_length || matches!(place.root, Root::Number(_)) {
-            return self
-                .emitter
-                .error(self.emitter.span_of(at), ErrorKind::NUMBER_CLEARED);
+            return self.emitter.error_at(at, ErrorKind::NUMBER_CLEARED);
         }
         self.emitter.check_changeable(&place);
         self.emitter.remove(&place, Removed::Below, statement.span);
         let walk = self.emitter.walk(&place, false);
         if self.emitter.code.known(walk.register) == Known::Number {
-            return self
-                .emitter
-                .error(self.emitter.span_of(at), ErrorKind::NUMBER_CLEARED);
+            return self.emitter.error_at(at, ErrorKind::NUMBER_CLEARED);
         }
         self.emitter.code.act(Operation::Clear, walk.register, 0);
         self.emitter.code.end_others(walk.register);
@@ -180,11 +195,10 @@ impl Compiler<'_> {
             Shape::Text | Shape::Of(Container::Vec | Container::FlatMap, _)
         );
         if place.is_length || !is_buffer {
-            return self.emitter.error_about(
-                self.emitter.span_of(at),
-                ErrorKind::SHRINK_OF,
-                About::of_type(place.value_type),
-            );
+            let span = self.emitter.span_of(at);
+            return self
+                .emitter
+                .type_error(span, ErrorKind::SHRINK_OF, place.value_type);
         }
         self.emitter.check_changeable(&place);
         let walk = self.emitter.walk(&place, false);

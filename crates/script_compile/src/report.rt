@@ -2,8 +2,8 @@
 
 use crate::entry::{Failure, Wrong, compile};
 use client_code::TypeTable;
-use script_code::Warning;
-use script_syntax::{Span, parse};
+use script_code::{Compiled, Error, Types, Warning};
+use script_syntax::{Span, Tree, parse};
 use std::alloc::{AllocError, Global};
 use std::fmt::Write;
 use std::str;
@@ -39,22 +39,50 @@ pub fn client_of(
     text: &[u8],
     image: &TypeTable,
 ) -> Result<Client, Refusal> {
-    let tree = match parse(alloc, text) {
-        Ok(tree) => tree,
-        Err(script_syntax::Failure::Memory) => return Err(Refusal::Memory),
+    match parse(alloc, text) {
+        Ok(tree) => client_of_tree(alloc, file, text, &tree, image),
+        Err(script_syntax::Failure::Memory) => Err(Refusal::Memory),
         Err(script_syntax::Failure::Errors(errors)) => {
-            return Err(Refusal::Errors(syntax_lines(alloc, file, text, errors.as_slice())?));
+            Err(refused(syntax_lines(alloc, file, text, errors.as_slice())))
         }
-    };
-    match compile(alloc, &tree, image) {
-        Ok(compiled) => Ok(Client {
-            bytes: compiled.file(alloc)?,
-            warnings: warning_lines(alloc, file, text, compiled.warnings.as_slice())?,
-        }),
-        Err(Failure::Errors(wrong)) => Err(Refusal::Errors(error_lines(
-            alloc, file, text, &wrong,
-        )?)),
+    }
+}
+
+fn client_of_tree(
+    alloc: Global,
+    file: &str,
+    text: &[u8],
+    tree: &Tree<'_>,
+    image: &TypeTable,
+) -> Result<Client, Refusal> {
+    match compile(alloc, tree, image) {
+        Ok(compiled) => match client(alloc, file, text, &compiled) {
+            Ok(client) => Ok(client),
+            Err(_) => Err(Refusal::Memory),
+        },
+        Err(Failure::Errors(wrong)) => Err(refused(error_lines(alloc, file, text, &wrong))),
         Err(Failure::Memory) => Err(Refusal::Memory),
+    }
+}
+
+fn client(
+    alloc: Global,
+    file: &str,
+    text: &[u8],
+    compiled: &Compiled,
+) -> Result<Client, AllocError> {
+    let warnings = warning_lines(alloc, file, text, compiled.warnings.as_slice())?;
+    Ok(Client {
+        bytes: compiled.file(alloc)?,
+        warnings,
+    })
+}
+
+/// The refusal with these lines.
+fn refused(lines: Result<String, AllocError>) -> Refusal {
+    match lines {
+        Ok(lines) => Refusal::Errors(lines),
+        Err(_) => Refusal::Memory,
     }
 }
 
@@ -66,15 +94,25 @@ fn syntax_lines(
 ) -> Result<String, AllocError> {
     let mut lines = String::new(alloc);
     for error in errors {
-        let (line, column) = (error.span.line, error.span.column);
-        let message = error.message(text);
-        writeln!(lines, "{file}:{line}:{column}: error: {message}")?;
-        write_source(&mut lines, text, error.span)?;
-        if let Some(hint) = error.hint() {
-            writeln!(lines, "hint: {hint}")?;
-        }
+        write_syntax_error(&mut lines, file, text, error)?;
     }
     Ok(lines)
+}
+
+fn write_syntax_error(
+    lines: &mut String,
+    file: &str,
+    text: &[u8],
+    error: &script_syntax::Error,
+) -> Result<(), AllocError> {
+    write_position(lines, file, error.span)?;
+    let message = error.message(text);
+    write!(lines, "error: {message}\n")?;
+    write_source(lines, text, error.span)?;
+    match error.hint() {
+        Some(hint) => write!(lines, "hint: {hint}\n"),
+        None => Ok(()),
+    }
 }
 
 fn error_lines(
@@ -85,15 +123,26 @@ fn error_lines(
 ) -> Result<String, AllocError> {
     let mut lines = String::new(alloc);
     for error in wrong.errors.as_slice() {
-        let (line, column) = (error.span.line, error.span.column);
-        let message = error.message(text, &wrong.types);
-        writeln!(lines, "{file}:{line}:{column}: error: {message}")?;
-        write_source(&mut lines, text, error.span)?;
-        if let Some(hint) = error.hint(text, &wrong.types) {
-            writeln!(lines, "hint: {hint}")?;
-        }
+        write_error(&mut lines, file, text, error, &wrong.types)?;
     }
     Ok(lines)
+}
+
+fn write_error(
+    lines: &mut String,
+    file: &str,
+    text: &[u8],
+    error: &Error,
+    types: &Types,
+) -> Result<(), AllocError> {
+    write_position(lines, file, error.span)?;
+    let message = error.message(text, types);
+    write!(lines, "error: {message}\n")?;
+    write_source(lines, text, error.span)?;
+    match error.hint(text, types) {
+        Some(hint) => write!(lines, "hint: {hint}\n"),
+        None => Ok(()),
+    }
 }
 
 fn warning_lines(
@@ -104,15 +153,31 @@ fn warning_lines(
 ) -> Result<String, AllocError> {
     let mut lines = String::new(alloc);
     for warning in warnings {
-        let (line, column) = (warning.span.line, warning.span.column);
-        let message = warning.message(text);
-        writeln!(lines, "{file}:{line}:{column}: warning: {message}")?;
-        write_source(&mut lines, text, warning.span)?;
-        if let Some(hint) = warning.hint() {
-            writeln!(lines, "hint: {hint}")?;
-        }
+        write_warning(&mut lines, file, text, warning)?;
     }
     Ok(lines)
+}
+
+fn write_warning(
+    lines: &mut String,
+    file: &str,
+    text: &[u8],
+    warning: &Warning,
+) -> Result<(), AllocError> {
+    write_position(lines, file, warning.span)?;
+    let message = warning.message(text);
+    write!(lines, "warning: {message}\n")?;
+    write_source(lines, text, warning.span)?;
+    match warning.hint() {
+        Some(hint) => write!(lines, "hint: {hint}\n"),
+        None => Ok(()),
+    }
+}
+
+/// Writes where a span begins.
+fn write_position(lines: &mut String, file: &str, span: Span) -> Result<(), AllocError> {
+    let (line, column) = (span.line, span.column);
+    write!(lines, "{file}:{line}:{column}: ")
 }
 
 /// Writes the line of a text that a span begins in, and carets under the span's part of it.
@@ -125,11 +190,16 @@ fn write_source(lines: &mut String, text: &[u8], span: Span) -> Result<(), Alloc
     let (Ok(line), Ok(before)) = (str::from_utf8(line), str::from_utf8(before)) else {
         return Ok(());
     };
-    writeln!(lines, "{line}")?;
+    write!(lines, "{line}\n")?;
+    write_carets(lines, before, width_of(after, span))
+}
+
+/// Writes a line with this many carets, under what follows the first part of a line.
+fn write_carets(lines: &mut String, before: &str, count: usize) -> Result<(), AllocError> {
     for character in before.chars() {
         lines.push(if character == '\t' { '\t' } else { ' ' })?;
     }
-    for _ in 0..width_of(after, span) {
+    for _ in 0..count {
         lines.push('^')?;
     }
     lines.push('\n')

@@ -68,65 +68,61 @@ impl Emitter<'_> {
             DeclarationKind::Fail(block) => return self.declare_fail(name, block),
             _ => self.check_new(name),
         }
-        let pushed = match declaration.kind {
-            DeclarationKind::Constant(expression) => self
-                .program
-                .values
-                .push(NamedValue {
-                    name,
-                    expression,
-                    value: None,
-                })
-                .is_ok(),
-            DeclarationKind::Struct(_) => self
-                .program
-                .types
-                .structs
-                .push(StructType {
-                    name,
-                    first: 0,
-                    end: 0,
-                })
-                .is_ok(),
+        match declaration.kind {
+            DeclarationKind::Constant(expression) => self.add_constant(name, expression),
+            DeclarationKind::Struct(_) => self.add_struct(name),
             DeclarationKind::Function {
                 parameters,
                 gives_number,
                 body,
-            } => self
-                .program
-                .functions
-                .push(Function {
-                    name,
-                    parameters,
-                    gives_number,
-                    body,
-                })
-                .is_ok(),
+            } => self.add_function(Function {
+                name,
+                parameters,
+                gives_number,
+                body,
+            }),
             DeclarationKind::Object { count, .. } => {
                 self.add_object(name, object_kind(count.is_some()))
             }
             DeclarationKind::Family { .. } => self.add_object(name, ObjectKind::Family),
             DeclarationKind::Unique(_) => self.add_object(name, ObjectKind::Unique),
-            DeclarationKind::Fail(_) => true,
-        };
-        if !pushed {
-            self.code.trouble.is_out_of_memory = true;
+            DeclarationKind::Fail(_) => {}
         }
     }
 
-    fn add_object(&mut self, name: Span, kind: ObjectKind) -> bool {
+    fn add_constant(&mut self, name: Span, expression: ExpressionAt) {
+        let constant = NamedValue {
+            name,
+            expression,
+            value: None,
+        };
+        append(&mut self.program.values, constant, &mut self.code.trouble)
+    }
+
+    fn add_struct(&mut self, name: Span) {
+        let added = StructType {
+            name,
+            first: 0,
+            end: 0,
+        };
+        append(&mut self.program.types.structs, added, &mut self.code.trouble)
+    }
+
+    fn add_function(&mut self, function: Function) {
+        append(&mut self.program.functions, function, &mut self.code.trouble)
+    }
+
+    fn add_object(&mut self, name: Span, kind: ObjectKind) {
         let word = self.word(name);
         let constant = self.code.constant(constant_kind(kind), word);
-        self.program
-            .objects
-            .push(Object {
-                name,
-                kind,
-                value_type: TypeAt::INT,
-                constant,
-                is_used: false,
-            })
-            .is_ok()
+        let object = Object {
+            name,
+            kind,
+            value_type: TypeAt::INT,
+            constant,
+            is_used: false,
+        };
+        append(&mut self.program.objects, object, &mut self.code.trouble)
     }
 
     fn declare_fail(&mut self, span: Span, block: Block) {
@@ -139,44 +135,34 @@ impl Emitter<'_> {
 
     /// Reports what would leave the statement that a `fail` part is used in.
     fn check_leaving(&mut self, block: Block) {
-        let tree = self.tree;
         let mut waiting = Vec::new(self.alloc);
         add(&mut waiting, block, false, &mut self.code.trouble);
         for _ in 0..MOST_BLOCKS {
             let Some(inner) = waiting.pop() else {
                 return;
             };
-            for range in [inner.block.statements, inner.block.following] {
-                for statement in tree.statements(range) {
-                    let is_loop = matches!(
-                        statement.kind,
-                        StatementKind::For { .. } | StatementKind::While { .. }
-                    );
-                    let leaves = match statement.kind {
-                        StatementKind::Return(_) => true,
-                        StatementKind::Break | StatementKind::Continue => !inner.is_in_loop,
-                        _ => false,
-                    };
-                    if leaves {
-                        self.report_at(statement.span, ErrorKind::LEAVES_FAIL);
-                    }
-                    if let Some(body) = statement.body {
-                        add(
-                            &mut waiting,
-                            body,
-                            inner.is_in_loop || is_loop,
-                            &mut self.code.trouble,
-                        );
-                    }
-                    if let Some(part) = statement.otherwise {
-                        add(
-                            &mut waiting,
-                            part.block,
-                            inner.is_in_loop,
-                            &mut self.code.trouble,
-                        );
-                    }
-                }
+            self.check_statements(&mut waiting, inner.block.statements, inner.is_in_loop);
+            self.check_statements(&mut waiting, inner.block.following, inner.is_in_loop);
+        }
+    }
+
+    fn check_statements(&mut self, waiting: &mut Vec<Inner>, range: Range, is_in_loop: bool) {
+        let tree = self.tree;
+        for statement in tree.statements(range) {
+            let leaves = match statement.kind {
+                StatementKind::Return(_) => true,
+                StatementKind::Break | StatementKind::Continue => !is_in_loop,
+                _ => false,
+            };
+            if leaves {
+                self.report_at(statement.span, ErrorKind::LEAVES_FAIL);
+            }
+            if let Some(body) = statement.body {
+                let is_inside = is_in_loop || is_loop(statement.kind);
+                add(waiting, body, is_inside, &mut self.code.trouble);
+            }
+            if let Some(part) = statement.otherwise {
+                add(waiting, part.block, is_in_loop, &mut self.code.trouble);
             }
         }
     }
@@ -246,20 +232,25 @@ impl Emitter<'_> {
         let first = self.program.types.members.len();
         for field in written {
             self.check_field(field.name, first);
-            let value_type = self.type_or_int(field.value_type);
-            let member = Member {
-                name: field.name,
-                value_type,
-            };
-            append(
-                &mut self.program.types.members,
-                member,
-                &mut self.code.trouble,
-            );
+            self.add_field(field.name, field.value_type);
         }
+        self.set_fields(declaration.span, first)
+    }
+
+    fn add_field(&mut self, name: Span, written: Type) {
+        let value_type = self.type_or_int(written);
+        append(
+            &mut self.program.types.members,
+            Member { name, value_type },
+            &mut self.code.trouble,
+        )
+    }
+
+    /// The fields from a position on are those of the struct with this name.
+    fn set_fields(&mut self, name: Span, first: usize) {
         let end = self.program.types.members.len();
-        let word = self.word(declaration.span);
-        if let Some(StructAt(at)) = self.program.types.struct_named(tree, word) {
+        let word = self.word(name);
+        if let Some(StructAt(at)) = self.program.types.struct_named(self.tree, word) {
             if let Some(found) = self.program.types.structs.get_mut(at) {
                 found.first = first;
                 found.end = end;
@@ -280,11 +271,7 @@ impl Emitter<'_> {
 
     /// The type that is written, or `int` if a struct in it isn't declared.
     fn type_or_int(&mut self, written: Type) -> TypeAt {
-        match self
-            .program
-            .types
-            .written(self.tree, written, &mut self.code.trouble)
-        {
+        match self.written_type(written) {
             Ok(found) => found,
             Err(span) => {
                 let near = self.near_struct(self.word(span));
@@ -325,21 +312,32 @@ impl Emitter<'_> {
             let Some(member) = waiting.pop() else {
                 return false;
             };
-            let Some(found) = self.program.types.members.get(member).copied() else {
-                continue;
-            };
-            if let Shape::Struct(inner) = self.program.types.shape(found.value_type) {
+            if let Some(inner) = self.struct_of(member) {
                 if inner == wanted {
                     return true;
                 }
-                if let Some(inner) = self.program.types.structs.get(inner.0) {
-                    for member in inner.first..inner.end {
-                        add_member(&mut waiting, member, &mut self.code.trouble);
-                    }
-                }
+                self.add_members(&mut waiting, inner);
             }
         }
         true
+    }
+
+    /// The struct that a field is.
+    fn struct_of(&self, member: usize) -> Option<StructAt> {
+        let found = self.program.types.members.get(member)?;
+        match self.program.types.shape(found.value_type) {
+            Shape::Struct(inner) => Some(inner),
+            _ => None,
+        }
+    }
+
+    fn add_members(&mut self, waiting: &mut Vec<usize>, at: StructAt) {
+        let Some(found) = self.program.types.structs.get(at.0).copied() else {
+            return;
+        };
+        for member in found.first..found.end {
+            add_member(waiting, member, &mut self.code.trouble);
+        }
     }
 
     /// Finds the type and the name of an object, and the types of a function's parameters.
@@ -350,10 +348,7 @@ impl Emitter<'_> {
                 count,
                 segment_name,
             } => {
-                let kind = match count {
-                    Some(count) => self.array(declaration.span, count),
-                    None => ObjectKind::Single,
-                };
+                let kind = self.single_or_array(declaration.span, count);
                 self.set_object(declaration.span, value_type, kind, segment_name)
             }
             DeclarationKind::Family {
@@ -368,18 +363,24 @@ impl Emitter<'_> {
             DeclarationKind::Unique(value_type) => {
                 self.set_object(declaration.span, value_type, ObjectKind::Unique, None)
             }
-            DeclarationKind::Function { parameters, .. } => {
-                let tree = self.tree;
-                for field in tree.fields(parameters) {
-                    let _ = self.type_or_int(field.value_type);
-                }
-            }
+            DeclarationKind::Function { parameters, .. } => self.check_parameters(parameters),
             DeclarationKind::Constant(_) | DeclarationKind::Struct(_) | DeclarationKind::Fail(_) =>
                 {}
         }
     }
 
-    fn array(&mut self, span: Span, count: ExpressionAt) -> ObjectKind {
+    /// Finds the types of a function's parameters.
+    fn check_parameters(&mut self, parameters: Range) {
+        let tree = self.tree;
+        for field in tree.fields(parameters) {
+            let _ = self.type_or_int(field.value_type);
+        }
+    }
+
+    fn single_or_array(&mut self, span: Span, count: Option<ExpressionAt>) -> ObjectKind {
+        let Some(count) = count else {
+            return ObjectKind::Single;
+        };
         match self.needed_number(count) {
             count if count >= 1 && count <= 65_535 => ObjectKind::Array(count),
             _ => {
@@ -411,12 +412,13 @@ impl Emitter<'_> {
             self.report_about(span, ErrorKind::SEGMENT_NAME, About::number(longest));
         }
         let constant = self.code.constant(constant_kind(kind), name);
-        if let Some(at) = self.program.object_named(tree, tree.word(span)) {
-            if let Some(object) = self.program.objects.get_mut(at) {
-                object.value_type = value_type;
-                object.kind = kind;
-                object.constant = constant;
-            }
+        let Some(at) = self.program.object_named(tree, tree.word(span)) else {
+            return;
+        };
+        if let Some(object) = self.program.objects.get_mut(at) {
+            object.value_type = value_type;
+            object.kind = kind;
+            object.constant = constant;
         }
     }
 }
@@ -430,6 +432,13 @@ struct Inner {
 
 fn add(waiting: &mut Vec<Inner>, block: Block, is_in_loop: bool, trouble: &mut Trouble) {
     append(waiting, Inner { block, is_in_loop }, trouble);
+}
+
+fn is_loop(kind: StatementKind) -> bool {
+    matches!(
+        kind,
+        StatementKind::For { .. } | StatementKind::While { .. }
+    )
 }
 
 fn add_member(waiting: &mut Vec<usize>, member: usize, trouble: &mut Trouble) {

@@ -3,9 +3,9 @@
 use crate::task::{Task, Value};
 use script_code::{
     About, Code, CodeMark, Error, ErrorKind, Folded, MOST_DEPTH, Meaning, Names, Place, Problem,
-    Program, Register, Warning, WarningKind, Way, append,
+    Program, Register, TypeAt, Warning, WarningKind, Way, append,
 };
-use script_syntax::{ExpressionAt, Span, Tree};
+use script_syntax::{ExpressionAt, Span, Tree, Type};
 use std::alloc::Global;
 
 /// How much is emitted. Going back to it needs no copy.
@@ -115,6 +115,16 @@ impl<'t> Emitter<'t> {
         }
     }
 
+    /// Works out a place next, and then does this task.
+    pub fn then_place(&mut self, at: ExpressionAt, task: Task) {
+        self.then(&[Task::Place(at, 0), task])
+    }
+
+    /// Works out a number in a register of its own next, and then does this task.
+    pub fn then_fresh(&mut self, at: ExpressionAt, task: Task) {
+        self.then(&[Task::Evaluate(at, None), Task::Fresh, task])
+    }
+
     /// Takes the next task away.
     pub fn pop_task(&mut self) -> Option<Task> {
         self.tasks.pop()
@@ -129,8 +139,25 @@ impl<'t> Emitter<'t> {
             .note(Problem::Error(Error::at(span, kind)));
     }
 
+    /// Notes an error at the beginning of the statement that is being compiled.
+    pub fn error_here(&mut self, kind: ErrorKind) {
+        let span = self.code.span;
+        self.error(span, kind)
+    }
+
+    /// Notes an error at an expression.
+    pub fn error_at(&mut self, at: ExpressionAt, kind: ErrorKind) {
+        let span = self.span_of(at);
+        self.error(span, kind)
+    }
+
     pub fn error_about(&mut self, span: Span, kind: ErrorKind, about: About) {
         self.fail(Error { span, kind, about });
+    }
+
+    /// Notes an error about a type.
+    pub fn type_error(&mut self, span: Span, kind: ErrorKind, value_type: TypeAt) {
+        self.error_about(span, kind, About::of_type(value_type))
     }
 
     /// Notes this error.
@@ -141,6 +168,25 @@ impl<'t> Emitter<'t> {
     /// Notes that the statement needs something with an error.
     pub fn skip(&mut self) {
         self.code.trouble.note(Problem::Known);
+    }
+
+    /// Lists the names which have a register, for an error.
+    pub fn list_names(&mut self) {
+        for at in 0..self.names.len() {
+            if let Some(name) = self.names.get(at) {
+                if name.is_visible() && name.meaning.register().is_some() {
+                    append(&mut self.alive, name.span, &mut self.code.trouble);
+                }
+            }
+        }
+    }
+
+    /// Lists the parts that are open, for an error.
+    pub fn list_parts(&mut self) {
+        for at in 0..self.code.part_count() {
+            let span = self.code.part_span(at);
+            append(&mut self.alive, span, &mut self.code.trouble);
+        }
     }
 
     /// Adds an error. One about a limit counts only if it is the first.
@@ -188,6 +234,14 @@ impl<'t> Emitter<'t> {
         self.names.use_name(last);
     }
 
+    /// The type that is written. `Err` with the name of a struct that isn't declared.
+    pub fn written_type(&mut self, written: Type) -> Result<TypeAt, Span> {
+        let tree = self.tree;
+        self.program
+            .types
+            .written(tree, written, &mut self.code.trouble)
+    }
+
     pub fn fold(&self, at: ExpressionAt) -> Result<Folded, Error> {
         self.program.fold(self.tree, &self.names, at, MOST_DEPTH)
     }
@@ -204,7 +258,7 @@ impl<'t> Emitter<'t> {
     pub fn needed_number(&mut self, at: ExpressionAt) -> i64 {
         match self.fold(at) {
             Ok(Folded::Number(value)) => return value,
-            Ok(Folded::Text(_)) => self.error(self.span_of(at), ErrorKind::NOT_CONSTANT),
+            Ok(Folded::Text(_)) => self.error_at(at, ErrorKind::NOT_CONSTANT),
             Err(error) => self.code.trouble.note(Problem::Error(error)),
         }
         0
@@ -227,6 +281,10 @@ impl<'t> Emitter<'t> {
                 Value::NONE
             }
         }
+    }
+
+    pub fn push_place(&mut self, place: Place) {
+        append(&mut self.places, place, &mut self.code.trouble)
     }
 
     /// The place that was worked out last.

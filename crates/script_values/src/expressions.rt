@@ -4,15 +4,26 @@ use crate::emitter::Emitter;
 use crate::task::Task;
 use client_code::Operation;
 use script_code::{
-    About, ErrorClass, ErrorKind, Folded, Known, MOST_DIGITS, Meaning, ObjectKind, Operand, Place,
+    ErrorClass, ErrorKind, Folded, Known, MOST_DIGITS, Meaning, ObjectKind, Operand, Place,
     Register, Root, Trouble, TypeAt, append,
 };
 use script_syntax::{
-    BinaryOperator, ExpressionAt, ExpressionKind, Range, Span, StepKind, Tree, UnaryOperator,
+    BinaryOperator, Expression, ExpressionAt, ExpressionKind, Range, Span, StepKind, Tree,
+    UnaryOperator,
 };
 
 /// How many parts of an expression a search visits. An expression has far fewer.
 const MOST_EXPRESSIONS: usize = 10_000;
+
+/// The registers of a comparison of a text with bytes that are known.
+#[derive(Clone, Copy)]
+struct Comparison {
+    /// Whether they are the same so far.
+    same: Register,
+    text: Register,
+    found: Register,
+    other: Register,
+}
 
 impl Emitter<'_> {
     /// Works out a number, in this register if one is given.
@@ -20,38 +31,57 @@ impl Emitter<'_> {
         let Some(expression) = self.tree.expression(at) else {
             return self.skip();
         };
-        let span = expression.span;
         match self.fold(at) {
-            Ok(Folded::Number(value)) => {
-                let register = self.target(into);
-                self.code.number(register, value);
-                return self.push_value(register, into.is_none());
-            }
-            Ok(Folded::Text(_)) => return self.error(span, ErrorKind::TEXT_AS_NUMBER),
-            Err(error) if error.kind.class == ErrorClass::Division => {
-                return self.fail(error);
-            }
-            Err(_) => {}
+            Ok(Folded::Number(value)) => self.push_known(value, into),
+            Ok(Folded::Text(_)) => self.error(expression.span, ErrorKind::TEXT_AS_NUMBER),
+            Err(error) if error.kind.class == ErrorClass::Division => self.fail(error),
+            Err(_) => self.evaluate_parts(at, expression, into),
         }
-        match expression.kind {
+    }
+
+    /// Pushes a number that is known.
+    fn push_known(&mut self, value: i64, into: Option<Register>) {
+        let register = self.target(into);
+        self.code.number(register, value);
+        self.push_value(register, into.is_none())
+    }
+
+    /// Works out a number that isn't known.
+    fn evaluate_parts(&mut self, at: ExpressionAt, whole: Expression, into: Option<Register>) {
+        match whole.kind {
             ExpressionKind::Number(_) | ExpressionKind::Text(_) => {
-                self.error(span, ErrorKind::NUMBER_WANTED)
+                self.error(whole.span, ErrorKind::NUMBER_WANTED)
             }
-            ExpressionKind::Unary(operator, operand) => self.then(&[
-                Task::Evaluate(operand, None),
-                Task::Unary(operator, into),
-            ]),
+            ExpressionKind::Unary(operator, operand) => {
+                self.evaluate_unary(operator, operand, into)
+            }
             ExpressionKind::Binary(operator, left, right) => {
-                self.evaluate_binary(span, operator, left, right, into)
+                self.evaluate_binary(whole.span, operator, left, right, into)
             }
-            ExpressionKind::Place(_) => match self.plain_number(at) {
-                Some(register) => self.push_value(register, false),
-                None => self.then(&[Task::Place(at, 0), Task::Load(at, into)]),
-            },
+            ExpressionKind::Place(_) => self.evaluate_place(at, into),
             ExpressionKind::OrElse(place, default) => self.evaluate_default(place, default),
             ExpressionKind::Call(arguments) => {
-                self.then(&[Task::BeginCall(at, span, arguments)])
+                self.then(&[Task::BeginCall(at, whole.span, arguments)])
             }
+        }
+    }
+
+    fn evaluate_unary(
+        &mut self,
+        operator: UnaryOperator,
+        operand: ExpressionAt,
+        into: Option<Register>,
+    ) {
+        self.then(&[
+            Task::Evaluate(operand, None),
+            Task::Unary(operator, into),
+        ])
+    }
+
+    fn evaluate_place(&mut self, at: ExpressionAt, into: Option<Register>) {
+        match self.plain_number(at) {
+            Some(register) => self.push_value(register, false),
+            None => self.then_place(at, Task::Load(at, into)),
         }
     }
 
@@ -84,15 +114,12 @@ impl Emitter<'_> {
         into: Option<Register>,
     ) {
         match operator {
-            BinaryOperator::Equal | BinaryOperator::NotEqual
-                if self.text_of(left).is_some()
-                    || self.text_of(right).is_some()
-                    || self.is_text(left) => { self.begin_comparison(span, operator, left, right) }
-            BinaryOperator::And | BinaryOperator::Or => self.then(&[
-                Task::Evaluate(left, None),
-                Task::Fresh,
-                Task::Logic(operator, right),
-            ]),
+            BinaryOperator::Equal | BinaryOperator::NotEqual if self.has_text(left, right) => {
+                self.begin_comparison(span, operator, left, right)
+            }
+            BinaryOperator::And | BinaryOperator::Or => {
+                self.then_fresh(left, Task::Logic(operator, right))
+            }
             BinaryOperator::Divide | BinaryOperator::Remainder => {
                 self.begin_division(span, operator, left, right)
             }
@@ -102,6 +129,11 @@ impl Emitter<'_> {
                 Task::Binary(operator, into),
             ]),
         }
+    }
+
+    /// Whether a side of a comparison is a text. Two places with texts can't be compared.
+    fn has_text(&self, left: ExpressionAt, right: ExpressionAt) -> bool {
+        self.text_of(left).is_some() || self.text_of(right).is_some() || self.is_text(left)
     }
 
     pub fn begin_division(
@@ -187,22 +219,24 @@ impl Emitter<'_> {
             None if right.is_own => right.register,
             None => self.code.take(),
         };
-        let (b, c) = match operator {
-            BinaryOperator::Greater | BinaryOperator::LessOrEqual => {
-                (right.register, left.register)
-            }
-            _ => (left.register, right.register),
-        };
-        self.code.compute(operation_of(operator), register, b, c);
-        if is_negated(operator) {
-            self.code.is_zero(register, register);
-        }
+        self.compute(operator, register, left.register, right.register);
         for value in [left, right] {
             if value.register != register {
                 self.free_value(value);
             }
         }
         self.push_value(register, into.is_none())
+    }
+
+    fn compute(&mut self, operator: BinaryOperator, to: Register, left: Register, right: Register) {
+        let (b, c) = match operator {
+            BinaryOperator::Greater | BinaryOperator::LessOrEqual => (right, left),
+            _ => (left, right),
+        };
+        self.code.compute(operation_of(operator), to, b, c);
+        if is_negated(operator) {
+            self.code.is_zero(to, to);
+        }
     }
 
     /// `&&` and `||`, after the left side. The right side runs only if that matters and it calls a
@@ -218,24 +252,27 @@ impl Emitter<'_> {
                 Task::LogicEnd(operator, register),
             ]);
         }
+        self.then(&[Task::Keep(register), Task::Push(value)]);
+        self.open_logic(operator, register, right)
+    }
+
+    /// Opens the part with the right side of `&&` or `||`. The register is 1 if the left side is
+    /// false.
+    fn open_logic(&mut self, operator: BinaryOperator, register: Register, right: ExpressionAt) {
         self.code.usage.hold(register);
-        let is_or = operator == BinaryOperator::Or;
-        if !is_or {
-            self.code.is_zero(register, register);
-        }
-        self.code.open_if(register);
-        let otherwise = if is_or {
-            Task::ElseOne(register)
-        } else {
-            Task::Else
+        let otherwise = match operator {
+            BinaryOperator::Or => Task::ElseOne(register),
+            _ => {
+                self.code.is_zero(register, register);
+                Task::Else
+            }
         };
+        self.code.open_if(register);
         self.then(&[
             Task::Evaluate(right, None),
             Task::Truth(register),
             otherwise,
             Task::EndPart,
-            Task::Keep(register),
-            Task::Push(value),
         ])
     }
 
@@ -270,37 +307,48 @@ impl Emitter<'_> {
     /// The number at the last place.
     pub fn load(&mut self, at: ExpressionAt, into: Option<Register>) {
         let place = self.pop_place();
-        let span = self.span_of(at);
         if !self.is_number(&place) {
-            return self.error_about(
-                span,
-                ErrorKind::NOT_NUMBER,
-                About::of_type(place.value_type),
-            );
+            let span = self.span_of(at);
+            return self.type_error(span, ErrorKind::NOT_NUMBER, place.value_type);
         }
-        if let (true, Root::Object(object)) = (place.is_length, place.root) {
-            if let Some(ObjectKind::Array(count)) = self.kind_of(object) {
-                let register = self.target(into);
-                self.code.number(register, count);
-                return self.push_value(register, into.is_none());
-            }
+        if let Some(count) = self.array_length(&place) {
+            return self.push_known(count, into);
         }
         if self.fallible(&place) > 0 {
-            return self.error(span, ErrorKind::MAY_BE_ABSENT);
+            return self.error_at(at, ErrorKind::MAY_BE_ABSENT);
         }
-        if self.openers(&place) == 0 {
+        self.load_place(&place, into)
+    }
+
+    /// The number of an array's values, if a place is that.
+    fn array_length(&self, place: &Place) -> Option<i64> {
+        let Root::Object(object) = place.root else {
+            return None;
+        };
+        match self.kind_of(object) {
+            Some(ObjectKind::Array(count)) if place.is_length => Some(count),
+            _ => None,
+        }
+    }
+
+    /// Pushes the number at a place that can't be absent.
+    fn load_place(&mut self, place: &Place, into: Option<Register>) {
+        if self.openers(place) == 0 {
             let register = self.target(into);
-            let walk = self.walk(&place, false);
-            self.read_number(register, walk.register, &place);
-            self.close_walk(&walk);
+            self.read_place(register, place);
             return self.push_value(register, into.is_none());
         }
         let register = self.code.literal_held(0);
-        let walk = self.walk(&place, false);
-        self.read_number(register, walk.register, &place);
-        self.close_walk(&walk);
+        self.read_place(register, place);
         self.code.usage.keep(register);
         self.push_value(register, true)
+    }
+
+    /// Sets a register to the number at a place, if it is there.
+    pub fn read_place(&mut self, register: Register, place: &Place) {
+        let walk = self.walk(place, false);
+        self.read_number(register, walk.register, place);
+        self.close_walk(&walk)
     }
 
     pub fn kind_of(&self, object: usize) -> Option<ObjectKind> {
@@ -320,21 +368,15 @@ impl Emitter<'_> {
     /// The number at the last place, if it is there. The register has the default.
     pub fn load_or(&mut self, at: ExpressionAt, register: Register) {
         let place = self.pop_place();
-        let span = self.span_of(at);
         if !self.is_number(&place) {
-            return self.error_about(
-                span,
-                ErrorKind::DEFAULT_OF,
-                About::of_type(place.value_type),
-            );
+            let span = self.span_of(at);
+            return self.type_error(span, ErrorKind::DEFAULT_OF, place.value_type);
         }
         if matches!(place.root, Root::Number(_)) || self.fallible(&place) == 0 {
-            return self.error(span, ErrorKind::NEEDLESS_DEFAULT);
+            return self.error_at(at, ErrorKind::NEEDLESS_DEFAULT);
         }
         self.code.usage.hold(register);
-        let walk = self.walk(&place, false);
-        self.read_number(register, walk.register, &place);
-        self.close_walk(&walk);
+        self.read_place(register, &place);
         self.code.usage.keep(register);
         self.push_value(register, true)
     }
@@ -347,30 +389,31 @@ impl Emitter<'_> {
             let Some(at) = waiting.pop() else {
                 return false;
             };
-            let Some(expression) = self.tree.expression(at) else {
-                continue;
-            };
-            match expression.kind {
-                ExpressionKind::Number(_) | ExpressionKind::Text(_) => {}
-                ExpressionKind::Unary(_, operand) => add_expression(
-                    &mut waiting,
-                    operand,
-                    &mut self.code.trouble,
-                ),
-                ExpressionKind::Binary(_, left, right) | ExpressionKind::OrElse(left, right) => {
-                    add_expression(&mut waiting, left, &mut self.code.trouble);
-                    add_expression(&mut waiting, right, &mut self.code.trouble);
-                }
-                ExpressionKind::Call(_) => return true,
-                ExpressionKind::Place(steps) => add_operands(
-                    self.tree,
-                    &mut waiting,
-                    steps,
-                    &mut self.code.trouble,
-                ),
+            if self.add_parts(&mut waiting, at) {
+                return true;
             }
         }
         true
+    }
+
+    /// Adds the parts of an expression, and returns whether it is a call.
+    fn add_parts(&mut self, waiting: &mut Vec<ExpressionAt>, at: ExpressionAt) -> bool {
+        let tree = self.tree;
+        let Some(expression) = tree.expression(at) else {
+            return false;
+        };
+        let trouble = &mut self.code.trouble;
+        match expression.kind {
+            ExpressionKind::Number(_) | ExpressionKind::Text(_) => {}
+            ExpressionKind::Unary(_, operand) => add_expression(waiting, operand, trouble),
+            ExpressionKind::Binary(_, left, right) | ExpressionKind::OrElse(left, right) => {
+                add_expression(waiting, left, trouble);
+                add_expression(waiting, right, trouble);
+            }
+            ExpressionKind::Call(_) => return true,
+            ExpressionKind::Place(steps) => add_operands(tree, waiting, steps, trouble),
+        }
+        false
     }
 
     /// The text that an expression always is.
@@ -393,18 +436,15 @@ impl Emitter<'_> {
             (Some(text), None) => (right, text),
             _ => return self.error(span, ErrorKind::TWO_TEXTS),
         };
-        self.then(&[Task::Place(place, 0), Task::Compare(place, operator, text)])
+        self.then_place(place, Task::Compare(place, operator, text))
     }
 
     /// Whether the text at the last place has these bytes.
     pub fn compare(&mut self, at: ExpressionAt, operator: BinaryOperator, bytes: Range) {
         let place = self.pop_place();
         if place.is_length || place.value_type != TypeAt::TEXT {
-            return self.error_about(
-                self.span_of(at),
-                ErrorKind::TEXT_WANTED,
-                About::of_type(place.value_type),
-            );
+            let span = self.span_of(at);
+            return self.type_error(span, ErrorKind::TEXT_WANTED, place.value_type);
         }
         let same = self.code.literal_held(0);
         let walk = self.walk(&place, false);
@@ -420,23 +460,48 @@ impl Emitter<'_> {
     fn compare_bytes(&mut self, same: Register, text: Register, bytes: Range) {
         let tree = self.tree;
         let bytes = tree.bytes(bytes);
-        let (found, other) = (self.code.take_held(), self.code.take_held());
-        self.code.read(Operation::Len, same, text);
-        self.code
-            .number(other, i64::try_from(bytes.len()).unwrap_or(0));
-        self.code.compute(Operation::Equal, same, same, other);
+        let comparison = Comparison {
+            same,
+            text,
+            found: self.code.take_held(),
+            other: self.code.take_held(),
+        };
+        self.compare_length(&comparison, bytes.len());
         for (index, byte) in bytes.iter().enumerate() {
-            self.code.number(other, i64::try_from(index).unwrap_or(0));
-            self.open_byte(found, text, other);
-            self.code.begin_else();
-            self.code.number(found, -1);
-            self.code.end_part();
-            self.code.number(other, i64::from(*byte));
-            self.code.compute(Operation::Equal, found, found, other);
-            self.code.compute(Operation::Mul, same, same, found);
+            self.compare_byte(&comparison, index, *byte);
         }
-        self.code.usage.release(found);
-        self.code.usage.release(other);
+        self.code
+            .usage
+            .release_all(&[comparison.found, comparison.other]);
+    }
+
+    fn compare_length(&mut self, comparison: &Comparison, length: usize) {
+        let Comparison {
+            same,
+            text,
+            other,
+            ..
+        } = *comparison;
+        self.code.read(Operation::Len, same, text);
+        self.code.number(other, i64::try_from(length).unwrap_or(0));
+        self.code.compute(Operation::Equal, same, same, other)
+    }
+
+    fn compare_byte(&mut self, comparison: &Comparison, index: usize, byte: u8) {
+        let Comparison {
+            same,
+            text,
+            found,
+            other,
+        } = *comparison;
+        self.code.number(other, i64::try_from(index).unwrap_or(0));
+        self.open_byte(found, text, other);
+        self.code.begin_else();
+        self.code.number(found, -1);
+        self.code.end_part();
+        self.code.number(other, i64::from(byte));
+        self.code.compute(Operation::Equal, found, found, other);
+        self.code.compute(Operation::Mul, same, same, found)
     }
 
     /// Opens the part that has a byte of a text.
@@ -455,13 +520,18 @@ impl Emitter<'_> {
         match expression.kind {
             ExpressionKind::Place(steps) => self.digits_of_place(at, steps),
             ExpressionKind::Binary(BinaryOperator::Remainder, _, right) => {
-                match self.known_number(right) {
-                    Some(divisor) => decimal_digits(divisor.wrapping_abs().wrapping_sub(1)),
-                    None => MOST_DIGITS,
-                }
+                self.digits_below(right)
             }
             _ if is_truth(expression.kind) => 1,
             _ => MOST_DIGITS,
+        }
+    }
+
+    /// The most digits of a remainder, by its divisor.
+    fn digits_below(&self, divisor: ExpressionAt) -> usize {
+        match self.known_number(divisor) {
+            Some(divisor) => decimal_digits(divisor.wrapping_abs().wrapping_sub(1)),
+            None => MOST_DIGITS,
         }
     }
 

@@ -7,6 +7,7 @@ mod expressions;
 mod near;
 mod numbers;
 mod output;
+mod perform;
 mod places;
 mod task;
 mod walks;

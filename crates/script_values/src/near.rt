@@ -66,17 +66,17 @@ fn is_near(one: &[u8], two: &[u8]) -> bool {
     if first.saturating_add(last) < 2 {
         return false;
     }
-    let one = one
-        .get(..one.len().saturating_sub(last))
-        .unwrap_or_default();
-    let two = two
-        .get(..two.len().saturating_sub(last))
-        .unwrap_or_default();
-    match (one, two) {
+    match (without_end(one, last), without_end(two, last)) {
         ([], [_]) | ([_], []) | ([_], [_]) => true,
         ([a, b], [c, d]) => a == d && b == c,
         _ => false,
     }
+}
+
+/// A word without its last bytes.
+fn without_end(word: &[u8], count: usize) -> &[u8] {
+    word.get(..word.len().saturating_sub(count))
+        .unwrap_or_default()
 }
 
 /// How many bytes two words have in common at their start.

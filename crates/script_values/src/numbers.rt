@@ -36,6 +36,17 @@ struct Decimal {
     one: Register,
 }
 
+/// The registers that a number's columns are counted with.
+#[derive(Clone, Copy)]
+struct Measure {
+    columns: Register,
+    zero: Register,
+    one: Register,
+    sign: Register,
+    /// The absolute value.
+    size: Register,
+}
+
 /// What is shown instead of a number that is too wide.
 const ASTERISKS: &[u8; 18] = b"******************";
 
@@ -44,10 +55,24 @@ impl Emitter<'_> {
     pub fn divide(&mut self, operator: BinaryOperator, known: Option<i64>) {
         let divisor = self.pop_value().register;
         let dividend = self.pop_value().register;
+        let is_small = matches!(known, Some(value) if value.unsigned_abs() < 1 << 62);
+        let division = self.new_division(dividend, divisor, is_small);
+        self.take_signs(&division, operator, known);
+        self.code.number(division.remainder, 0);
+        self.code.open_loop(division.one, 64);
+        self.divide_bit(&division);
+        self.code.end_loop();
+        let result = self.give_sign(&division, operator, known);
+        self.release_division(&division);
+        self.code.usage.hold(result);
+        self.code.usage.keep(result);
+        self.push_value(result, true)
+    }
+
+    fn new_division(&mut self, dividend: Register, divisor: Register, is_small: bool) -> Division {
         self.code.usage.hold(divisor);
         self.code.usage.hold(dividend);
-        let is_small = matches!(known, Some(value) if value.unsigned_abs() < 1 << 62);
-        let division = Division {
+        Division {
             dividend,
             divisor,
             sign: self.code.literal_held(0),
@@ -59,17 +84,7 @@ impl Emitter<'_> {
             } else {
                 Some(self.code.literal_held(0))
             },
-        };
-        self.take_signs(&division, operator, known);
-        self.code.number(division.remainder, 0);
-        self.code.open_loop(division.one, 64);
-        self.divide_bit(&division);
-        self.code.end_loop();
-        let result = self.give_sign(&division, operator, known);
-        self.release_division(&division);
-        self.code.usage.hold(result);
-        self.code.usage.keep(result);
-        self.push_value(result, true)
+        }
     }
 
     fn release_division(&mut self, division: &Division) {
@@ -119,8 +134,6 @@ impl Emitter<'_> {
     fn divide_bit(&mut self, division: &Division) {
         let Division {
             dividend,
-            divisor,
-            one,
             temporary,
             remainder,
             ..
@@ -134,6 +147,19 @@ impl Emitter<'_> {
             .compute(Operation::Add, remainder, remainder, remainder);
         self.code
             .compute(Operation::Add, remainder, remainder, temporary);
+        self.divide_rest(division)
+    }
+
+    /// Takes the divisor from the remainder if that is not less, and adds 1 to the quotient.
+    fn divide_rest(&mut self, division: &Division) {
+        let Division {
+            dividend,
+            divisor,
+            one,
+            temporary,
+            remainder,
+            ..
+        } = *division;
         self.code
             .compute(Operation::Less, temporary, remainder, divisor);
         if let Some(large) = division.large {
@@ -196,14 +222,7 @@ impl Emitter<'_> {
     }
 
     fn write_long(&mut self, rest: Register, digits: usize, output: &Output) {
-        let decimal = Decimal {
-            rest,
-            limit: self.code.literal_held(0),
-            leading: self.code.literal_held(0),
-            temporary: self.code.literal_held(0),
-            digit: self.code.literal_held(0),
-            one: self.code.literal_held(0),
-        };
+        let decimal = self.new_decimal(rest);
         self.write_sign(&decimal, output);
         let digits = digits.clamp(1, MOST_DIGITS);
         self.set_limit(&decimal, decimal.limit, limit_of(digits));
@@ -221,6 +240,17 @@ impl Emitter<'_> {
             decimal.digit,
             decimal.one,
         ]);
+    }
+
+    fn new_decimal(&mut self, rest: Register) -> Decimal {
+        Decimal {
+            rest,
+            limit: self.code.literal_held(0),
+            leading: self.code.literal_held(0),
+            temporary: self.code.literal_held(0),
+            digit: self.code.literal_held(0),
+            one: self.code.literal_held(0),
+        }
     }
 
     /// Writes the sign, and makes the number negative or 0, so that -2^63 is no exception.
@@ -393,13 +423,7 @@ impl Emitter<'_> {
         let fits = self.code.literal_held(0);
         self.measure(number, width, spaces, fits);
         self.code.open_if(fits);
-        let one = self.code.literal_held(1);
-        self.code
-            .open_loop(spaces, i32::try_from(width).unwrap_or(1));
-        self.code.print(b" ");
-        self.code.compute(Operation::Sub, spaces, spaces, one);
-        self.code.end_loop();
-        self.code.usage.release(one);
+        self.write_spaces(spaces, width);
         self.push_value(number, true);
         self.write_digits(width, false, output);
         self.code.begin_else();
@@ -408,26 +432,73 @@ impl Emitter<'_> {
         self.code.usage.release_all(&[number, spaces, fits]);
     }
 
+    /// Writes as many spaces as a register says, at most this many.
+    fn write_spaces(&mut self, spaces: Register, most: usize) {
+        let one = self.code.literal_held(1);
+        self.code
+            .open_loop(spaces, i32::try_from(most).unwrap_or(1));
+        self.code.print(b" ");
+        self.code.compute(Operation::Sub, spaces, spaces, one);
+        self.code.end_loop();
+        self.code.usage.release(one);
+    }
+
     /// Works out whether a number fits into this number of columns, and how many it leaves.
     fn measure(&mut self, number: Register, width: usize, spaces: Register, fits: Register) {
-        let (zero, one) = (self.code.literal_held(0), self.code.literal_held(1));
-        let (sign, size) = (self.code.literal_held(0), self.code.literal_held(0));
-        self.code.compute(Operation::Less, spaces, number, zero);
-        self.code.compute(Operation::Add, sign, spaces, spaces);
-        self.code.compute(Operation::Sub, sign, one, sign);
-        self.code.compute(Operation::Mul, size, number, sign);
-        self.code.compute(Operation::Add, spaces, spaces, one);
+        let measure = Measure {
+            columns: spaces,
+            zero: self.code.literal_held(0),
+            one: self.code.literal_held(1),
+            sign: self.code.literal_held(0),
+            size: self.code.literal_held(0),
+        };
+        self.begin_columns(&measure, number);
         for digits in 1..=width.min(18) {
-            self.code.number(one, power_of_ten(digits));
-            self.code.compute(Operation::Less, sign, size, one);
-            self.code.compute(Operation::Equal, sign, sign, zero);
-            self.code.compute(Operation::Add, spaces, spaces, sign);
+            self.count_column(&measure, digits);
         }
+        let Measure {
+            zero,
+            one,
+            sign,
+            size,
+            ..
+        } = measure;
         self.code.number(one, as_number(width).wrapping_add(1));
         self.code.compute(Operation::Less, fits, spaces, one);
         self.code.number(sign, as_number(width));
         self.code.compute(Operation::Sub, spaces, sign, spaces);
         self.code.usage.release_all(&[zero, one, sign, size]);
+    }
+
+    /// Counts the column of the sign and the first digit, and finds a number's absolute value.
+    fn begin_columns(&mut self, measure: &Measure, number: Register) {
+        let Measure {
+            columns,
+            zero,
+            one,
+            sign,
+            size,
+        } = *measure;
+        self.code.compute(Operation::Less, columns, number, zero);
+        self.code.compute(Operation::Add, sign, columns, columns);
+        self.code.compute(Operation::Sub, sign, one, sign);
+        self.code.compute(Operation::Mul, size, number, sign);
+        self.code.compute(Operation::Add, columns, columns, one)
+    }
+
+    /// Counts a column more if a number has more than this many digits.
+    fn count_column(&mut self, measure: &Measure, digits: usize) {
+        let Measure {
+            columns,
+            zero,
+            one,
+            sign,
+            size,
+        } = *measure;
+        self.code.number(one, power_of_ten(digits));
+        self.code.compute(Operation::Less, sign, size, one);
+        self.code.compute(Operation::Equal, sign, sign, zero);
+        self.code.compute(Operation::Add, columns, columns, sign)
     }
 }
 

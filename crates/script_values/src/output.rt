@@ -4,7 +4,7 @@ use crate::emitter::Emitter;
 use crate::task::{Handler, Output, Task, TextTarget, Walk};
 use client_code::{ConstantKind, LONGEST, Operation};
 use script_code::{
-    About, Code, ConstantAt, ErrorKind, Folded, Known, Operand, Place, Register, TypeAt,
+    Code, ConstantAt, ErrorKind, Folded, Known, Operand, Place, Register, TypeAt,
     WarningKind, append_bytes,
 };
 use script_syntax::{
@@ -136,32 +136,23 @@ impl Emitter<'_> {
 
     fn write_item(&mut self, item: &Item, at: ExpressionAt, rest: Range, output: Output) {
         let follows = Task::Items(rest, output);
+        self.then(&[follows]);
         if self.is_text(at) {
             let write = match output {
                 Output::Printed { .. } => Task::WriteText(at),
                 Output::Added(target) => Task::TextCopy(target, at),
             };
-            return self.then(&[Task::Place(at, 0), write, follows]);
+            return self.then_place(at, write);
         }
         if let Some(width) = item.width {
             let width = self.width(width, &output);
-            return self.then(&[
-                Task::Evaluate(at, None),
-                Task::Fresh,
-                Task::Padded(width, output),
-                follows,
-            ]);
+            return self.then_fresh(at, Task::Padded(width, output));
         }
         self.check_printable(at);
         if self.ends_line_next(rest, &output) {
-            return self.then(&[Task::Evaluate(at, None), Task::WriteLine, follows]);
+            return self.then(&[Task::Evaluate(at, None), Task::WriteLine]);
         }
-        self.then(&[
-            Task::Evaluate(at, None),
-            Task::Fresh,
-            Task::Digits(at, output),
-            follows,
-        ])
+        self.then_fresh(at, Task::Digits(at, output))
     }
 
     fn check_printable(&mut self, at: ExpressionAt) {
@@ -170,11 +161,8 @@ impl Emitter<'_> {
         }
         match self.type_of(at) {
             Some(found) if found != TypeAt::INT && found != TypeAt::TEXT => {
-                self.error_about(
-                    self.span_of(at),
-                    ErrorKind::NOT_PRINTABLE,
-                    About::of_type(found),
-                )
+                let span = self.span_of(at);
+                self.type_error(span, ErrorKind::NOT_PRINTABLE, found)
             }
             _ => {}
         }
@@ -216,7 +204,8 @@ impl Emitter<'_> {
     pub fn write_text(&mut self, at: ExpressionAt) {
         let place = self.pop_place();
         if self.fallible(&place) > 0 {
-            self.warn(self.span_of(at), WarningKind::AbsentText);
+            let span = self.span_of(at);
+            self.warn(span, WarningKind::AbsentText);
         }
         let walk = self.walk(&place, false);
         self.code.act(Operation::OutStr, walk.register, 0);
@@ -237,30 +226,42 @@ impl Emitter<'_> {
         else {
             return;
         };
-        let replaces = match operator {
-            SetOperator::Set => true,
-            SetOperator::Add => false,
-            _ => return self.error(operator_span, ErrorKind::ONLY_NUMBERS),
-        };
+        if !matches!(operator, SetOperator::Set | SetOperator::Add) {
+            return self.error(operator_span, ErrorKind::ONLY_NUMBERS);
+        }
+        let replaces = operator == SetOperator::Set;
         self.check_changeable(&place);
         let handler = self.handler(statement);
+        self.open_text(&place, handler, replaces, items, max)
+    }
+
+    /// Begins a text at a place: opens the walk to it, and writes the items.
+    fn open_text(
+        &mut self,
+        place: &Place,
+        handler: Handler,
+        replaces: bool,
+        items: Range,
+        max: Option<ExpressionAt>,
+    ) {
         let code = self.code.literal_held(0);
-        let walk = self.walk(&place, true);
+        let walk = self.walk(place, true);
         self.code.usage.hold(walk.register);
         let temporary = self.code.literal_held(0);
         let target = TextTarget {
             text: walk.register,
             temporary,
             code,
-            place,
+            place: *place,
             replaces,
             max,
         };
         if replaces {
             self.replace_text(&target, items);
         }
+        let left = self.items_left(&target, items);
         self.then(&[
-            Task::Items(self.items_left(&target, items), Output::Added(target)),
+            Task::Items(left, Output::Added(target)),
             Task::TextEnd(walk, target, handler),
         ])
     }

@@ -98,15 +98,7 @@ impl Emitter<'_> {
     pub fn resolve(&mut self, at: ExpressionAt, dropped: usize) {
         let span = self.span_of(at);
         let Some(steps) = self.steps_of(at, dropped) else {
-            let is_call = matches!(
-                self.tree.expression(at),
-                Some(expression) if matches!(expression.kind, ExpressionKind::Call(_))
-            );
-            let kind = if is_call {
-                ErrorKind::CALL_AS_PLACE
-            } else {
-                ErrorKind::PLACE_WANTED
-            };
+            let kind = self.no_place(at);
             return self.error(span, kind);
         };
         let tree = self.tree;
@@ -118,14 +110,29 @@ impl Emitter<'_> {
             name: span,
         };
         let skipped = self.resolve_root(&mut resolving, steps);
+        self.resolve_steps(&mut resolving, steps, skipped);
+        self.values.truncate(first_value);
+        self.push_place(resolving.place)
+    }
+
+    /// The error of an expression that isn't a place.
+    fn no_place(&self, at: ExpressionAt) -> ErrorKind {
+        let Some(expression) = self.tree.expression(at) else {
+            return ErrorKind::PLACE_WANTED;
+        };
+        match expression.kind {
+            ExpressionKind::Call(_) => ErrorKind::CALL_AS_PLACE,
+            _ => ErrorKind::PLACE_WANTED,
+        }
+    }
+
+    fn resolve_steps(&mut self, resolving: &mut Resolving, steps: &[Step], skipped: usize) {
         for (number, step) in steps.iter().enumerate() {
             if number >= skipped {
                 let is_last = number.saturating_add(1) == steps.len();
-                self.resolve_step(&mut resolving, step, is_last);
+                self.resolve_step(resolving, step, is_last);
             }
         }
-        self.values.truncate(first_value);
-        append(&mut self.places, resolving.place, &mut self.code.trouble)
     }
 
     /// The position of the first key of these steps that was worked out.
@@ -156,7 +163,8 @@ impl Emitter<'_> {
         let word = self.word(span);
         if let Some(at) = self.names.find(self.tree, word) {
             self.names.use_name(at);
-            return self.resolve_name(resolving, at, steps);
+            self.resolve_name(resolving, at, steps);
+            return 0;
         }
         if let Some(at) = self.program.object_named(self.tree, word) {
             return self.resolve_object(resolving, at, steps);
@@ -170,17 +178,16 @@ impl Emitter<'_> {
         0
     }
 
-    fn resolve_name(&mut self, resolving: &mut Resolving, at: usize, steps: &[Step]) -> usize {
+    fn resolve_name(&mut self, resolving: &mut Resolving, at: usize, steps: &[Step]) {
         let span = resolving.name;
         let Some(name) = self.names.get(at) else {
-            self.skip();
-            return 0;
+            return self.skip();
         };
         match name.meaning {
             Meaning::Number { .. } => {
                 if let Some(step) = steps.first() {
                     self.error_about(step.span, ErrorKind::NUMBER_HAS_NO_PARTS, About::name(span));
-                    return 0;
+                    return;
                 }
                 resolving.place.root = Root::Number(at);
             }
@@ -189,26 +196,27 @@ impl Emitter<'_> {
                 value_type,
             } => {
                 if !self.code.owns(register) {
-                    self.error_about(span, ErrorKind::MOVED, About::number(name.span.line));
-                    return 0;
+                    let about = About::number(name.span.line);
+                    return self.error_about(span, ErrorKind::MOVED, about);
                 }
                 resolving.place.root = Root::Owner(at);
                 resolving.place.value_type = value_type;
             }
             Meaning::Place { place, .. } => {
-                if let Some(ended) = self.code.where_ended(name.id) {
-                    self.error_about(span, ErrorKind::GONE, About::number(ended.line));
-                    return 0;
-                }
-                self.copy_way(resolving, &place);
-                resolving.place.via = Some(at);
+                self.resolve_named(resolving, at, name.id, &place)
             }
-            Meaning::Hidden(_) | Meaning::Unknown => return {
-                self.skip();
-                0
-            }
+            Meaning::Hidden(_) | Meaning::Unknown => self.skip(),
         }
-        0
+    }
+
+    /// Begins a place with the one that a name refers to.
+    fn resolve_named(&mut self, resolving: &mut Resolving, at: usize, id: usize, place: &Place) {
+        if let Some(ended) = self.code.where_ended(id) {
+            let about = About::number(ended.line);
+            return self.error_about(resolving.name, ErrorKind::GONE, about);
+        }
+        self.copy_way(resolving, place);
+        resolving.place.via = Some(at);
     }
 
     /// Begins a place with the way of another one.
@@ -344,7 +352,7 @@ impl Emitter<'_> {
         let value_type = resolving.place.value_type;
         let shape = self.program.types.shape(value_type);
         let Some(item) = shape.item() else {
-            return self.error_about(span, ErrorKind::NO_ITEMS, About::of_type(value_type));
+            return self.type_error(span, ErrorKind::NO_ITEMS, value_type);
         };
         let key = self.take_key(resolving, key);
         let kind = match shape {
@@ -378,8 +386,7 @@ impl Emitter<'_> {
     }
 
     fn resolve_field(&mut self, resolving: &mut Resolving, span: Span, is_last: bool) {
-        let value_type = resolving.place.value_type;
-        let shape = self.program.types.shape(value_type);
+        let shape = self.program.types.shape(resolving.place.value_type);
         let word = self.word(span);
         if shape.is_map() && word == b"first".as_slice() {
             if !is_last {
@@ -394,9 +401,15 @@ impl Emitter<'_> {
             resolving.place.is_length = true;
             return;
         }
+        self.resolve_member(resolving, span, shape)
+    }
+
+    fn resolve_member(&mut self, resolving: &mut Resolving, span: Span, shape: Shape) {
+        let value_type = resolving.place.value_type;
         let Shape::Struct(found) = shape else {
-            return self.error_about(span, ErrorKind::NO_PART, About::of_type(value_type));
+            return self.type_error(span, ErrorKind::NO_PART, value_type);
         };
+        let word = self.word(span);
         match self.program.types.field(self.tree, found, word) {
             Some((number, to)) => { self.add_way(&mut resolving.place, WayKind::Field(number), to) }
             None => {
@@ -446,6 +459,16 @@ impl Emitter<'_> {
     }
 
     fn type_of_step(&self, from: TypeAt, step: &Step) -> Option<TypeAt> {
+        let shape = self.content_shape(from);
+        match step.kind {
+            StepKind::Index(_) => shape.item(),
+            StepKind::Method(_) => Some(TypeAt::INT),
+            StepKind::Field => self.type_of_field(shape, step.span),
+        }
+    }
+
+    /// The shape of a type, or of what an `own` or a `shared` contains.
+    fn content_shape(&self, from: TypeAt) -> Shape {
         let mut from = from;
         for _ in 0..self.program.types.len() {
             match self.program.types.shape(from).content() {
@@ -453,19 +476,16 @@ impl Emitter<'_> {
                 None => break,
             }
         }
-        let shape = self.program.types.shape(from);
-        match step.kind {
-            StepKind::Index(_) => shape.item(),
-            StepKind::Method(_) => Some(TypeAt::INT),
-            StepKind::Field => match shape {
-                Shape::Struct(found) => {
-                    let word = self.word(step.span);
-                    let (_, to) = self.program.types.field(self.tree, found, word)?;
-                    Some(to)
-                }
-                _ => Some(TypeAt::INT),
-            },
-        }
+        self.program.types.shape(from)
+    }
+
+    fn type_of_field(&self, shape: Shape, name: Span) -> Option<TypeAt> {
+        let Shape::Struct(found) = shape else {
+            return Some(TypeAt::INT);
+        };
+        let word = self.word(name);
+        let (_, to) = self.program.types.field(self.tree, found, word)?;
+        Some(to)
     }
 
     /// Whether an expression is a place with a text.

@@ -7,7 +7,7 @@ use script_code::{
     Class, Key, Known, Meaning, NONE, Object, ObjectKind, Operand, Place, Register, Root,
     WarningKind, Way, WayKind,
 };
-use script_syntax::{Span, Statement};
+use script_syntax::{ElsePart, Span, Statement};
 
 /// The position where a walk begins.
 #[derive(Clone, Copy)]
@@ -124,24 +124,27 @@ impl Emitter<'_> {
         walk.held = Some(register);
         match place.root {
             Root::Owner(name) => self.refer_to_owner(register, name),
-            Root::Object(at) => {
-                if let Some(object) = self.program.object(at) {
-                    self.open_object(register, object, makes);
-                    walk.add(register);
-                }
-            }
-            Root::Element(at, key) => {
-                if let Some(object) = self.program.object(at) {
-                    self.open_element(register, object, key, makes);
-                    walk.add(register);
-                }
-            }
+            Root::Object(at) => self.walk_object(&mut walk, at, None, makes),
+            Root::Element(at, key) => self.walk_object(&mut walk, at, Some(key), makes),
             Root::Number(_) => return {
                 self.skip();
                 Walk::begin(Register(0))
             }
         }
         walk
+    }
+
+    /// Begins a walk with an object, or with the element with this key.
+    fn walk_object(&mut self, walk: &mut Walk, at: usize, key: Option<Key>, makes: bool) {
+        let Some(object) = self.program.object(at) else {
+            return;
+        };
+        let register = walk.register;
+        match key {
+            Some(key) => self.open_element(register, object, key, makes),
+            None => self.open_object(register, object, makes),
+        }
+        walk.add(register)
     }
 
     fn refer_to_owner(&mut self, register: Register, name: usize) {
@@ -248,14 +251,7 @@ impl Emitter<'_> {
     }
 
     fn walk_step(&mut self, walk: &mut Walk, way: Way, makes: bool) {
-        let to = match walk.held {
-            Some(register) => register,
-            None => {
-                let register = self.code.take_held();
-                walk.held = Some(register);
-                register
-            }
-        };
+        let to = self.walk_register(walk);
         let from = walk.register;
         if let WayKind::Content { is_shared: true } = way.kind {
             walk.is_frozen = true;
@@ -265,39 +261,39 @@ impl Emitter<'_> {
             value_type: way.to,
             is_frozen: walk.is_frozen,
         };
-        let from_known = self.code.known(from);
-        if let Known::Nothing = from_known {
+        if let Known::Nothing = self.code.known(from) {
             return self.skip();
         }
-        match way.kind {
-            WayKind::Field(number) => {
-                let number = i32::try_from(number).unwrap_or(0);
-                self.code.refer(Operation::Field, to, from, number, part);
-            }
-            WayKind::Content { .. } => self.open_step(Operation::Content, to, from, None, part),
-            WayKind::FirstKey => {
-                self.open_step(Operation::FirstKey, to, from, None, Known::Number);
-            }
-            WayKind::NextKey(key) => {
-                self.open_step(Operation::NextKey, to, from, Some(key), Known::Number);
-            }
-            WayKind::Byte(key) => {
-                self.open_step(Operation::At, to, from, Some(key), Known::Number);
-            }
-            WayKind::Item(key) => self.open_step(Operation::At, to, from, Some(key), part),
-            WayKind::Key(key) => {
-                let operation = if makes && !walk.is_frozen {
-                    Operation::PutKey
-                } else {
-                    Operation::GetKey
-                };
-                self.open_step(operation, to, from, Some(key), part);
-            }
-        }
+        self.emit_step(way.kind, to, from, part, makes && !walk.is_frozen);
         if way.kind.can_fail() {
             walk.add(to);
         }
         walk.register = to;
+    }
+
+    /// The register of a walk's own. It is taken at the first step.
+    fn walk_register(&mut self, walk: &mut Walk) -> Register {
+        match walk.held {
+            Some(register) => register,
+            None => {
+                let register = self.code.take_held();
+                walk.held = Some(register);
+                register
+            }
+        }
+    }
+
+    /// Emits a step to this part.
+    fn emit_step(&mut self, kind: WayKind, to: Register, from: Register, part: Known, makes: bool) {
+        if let WayKind::Field(number) = kind {
+            let number = i32::try_from(number).unwrap_or(0);
+            return self.code.refer(Operation::Field, to, from, number, part);
+        }
+        let known = match kind {
+            WayKind::FirstKey | WayKind::NextKey(_) | WayKind::Byte(_) => Known::Number,
+            _ => part,
+        };
+        self.open_step(operation_of(kind, makes), to, from, kind.key(), known)
     }
 
     fn open_step(
@@ -372,15 +368,10 @@ impl Emitter<'_> {
             }
             None => {
                 self.code.begin_else();
-                let register = walk.opened[0];
-                let release = match walk.held {
-                    Some(register) => Task::Release(register),
-                    None => Task::EndPart,
-                };
-                if walk.held.is_none() {
-                    return self.then(&[Task::Handle(handler, register), Task::EndPart]);
+                if let Some(register) = walk.held {
+                    self.then(&[Task::Release(register)]);
                 }
-                self.then(&[Task::Handle(handler, register), Task::EndPart, release])
+                self.then(&[Task::Handle(handler, walk.opened[0]), Task::EndPart])
             }
         }
     }
@@ -403,26 +394,32 @@ impl Emitter<'_> {
 
     /// Runs what is done if something failed with the code in a register.
     pub fn handle(&mut self, handler: Handler, code: Register) {
-        let span = self.code.span;
         match handler {
             Handler::Nothing => {}
-            Handler::Part(part) => match part.code {
-                Some(name) => {
-                    let names = self.names.len();
-                    self.bind(name, Meaning::short_number(code, 2));
-                    self.then(&[Task::Body(part.block, names, false), Task::At(span)])
-                }
-                None => self.then(&[Task::Block(part.block), Task::At(span)]),
-            },
-            Handler::Fail => {
-                let Some(block) = self.program.fail else {
-                    return;
-                };
-                let base = self.names.base;
-                self.names.base = self.names.len();
-                self.then(&[Task::Block(block), Task::SetBase(base), Task::At(span)])
-            }
+            Handler::Part(part) => self.handle_part(&part, code),
+            Handler::Fail => self.handle_fail(),
         }
+    }
+
+    fn handle_part(&mut self, part: &ElsePart, code: Register) {
+        let span = self.code.span;
+        match part.code {
+            Some(name) => {
+                let names = self.names.len();
+                self.bind(name, Meaning::short_number(code, 2));
+                self.then(&[Task::Body(part.block, names, false), Task::At(span)])
+            }
+            None => self.then(&[Task::Block(part.block), Task::At(span)]),
+        }
+    }
+
+    fn handle_fail(&mut self) {
+        let Some(block) = self.program.fail else {
+            return;
+        };
+        let (base, span) = (self.names.base, self.code.span);
+        self.names.base = self.names.len();
+        self.then(&[Task::Block(block), Task::SetBase(base), Task::At(span)])
     }
 
     /// What is done if a statement fails: its else part, or the program's `fail` part. If there is
@@ -472,6 +469,20 @@ impl Emitter<'_> {
         if !is_whole && named.len() <= place.len() {
             return false;
         }
+        if !self.ways_may_equal(named, place) {
+            return false;
+        }
+        let Removed::Key(key) = removed else {
+            return true;
+        };
+        match self.ways.get(named.first.saturating_add(place.len())) {
+            Some(way) => way.kind.may_equal(WayKind::Key(key)),
+            None => true,
+        }
+    }
+
+    /// Whether a place may begin with the way of another one.
+    fn ways_may_equal(&self, named: &Place, place: &Place) -> bool {
         for step in 0..place.len() {
             let one = self.ways.get(named.first.saturating_add(step));
             let two = self.ways.get(place.first.saturating_add(step));
@@ -481,18 +492,12 @@ impl Emitter<'_> {
                 }
             }
         }
-        match (
-            removed,
-            self.ways.get(named.first.saturating_add(place.len())),
-        ) {
-            (Removed::Key(key), Some(way)) => way.kind.may_equal(WayKind::Key(key)),
-            _ => true,
-        }
+        true
     }
 }
 
 impl Handler {
-    fn of(part: script_syntax::ElsePart) -> Handler {
+    fn of(part: ElsePart) -> Handler {
         if part.block.statements.is_empty() && part.block.following.is_empty() {
             return Handler::Nothing;
         }
@@ -501,6 +506,18 @@ impl Handler {
 
     pub fn is_nothing(self) -> bool {
         matches!(self, Handler::Nothing)
+    }
+}
+
+/// The operation of a step other than to a field.
+fn operation_of(kind: WayKind, makes: bool) -> Operation {
+    match kind {
+        WayKind::FirstKey => Operation::FirstKey,
+        WayKind::NextKey(_) => Operation::NextKey,
+        WayKind::Byte(_) | WayKind::Item(_) => Operation::At,
+        WayKind::Key(_) if makes => Operation::PutKey,
+        WayKind::Key(_) => Operation::GetKey,
+        WayKind::Content { .. } | WayKind::Field(_) => Operation::Content,
     }
 }
 
