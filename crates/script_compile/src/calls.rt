@@ -291,7 +291,7 @@ impl Compiler<'_> {
         }
         self.keep_temporaries(&held);
         if let Some(result) = result {
-            self.end_result(result, wants_value)
+            self.end_result(result, wants_value);
         }
     }
 

@@ -7,7 +7,7 @@ use script_code::{
 };
 use script_syntax::{
     BinaryOperator, Container, ExpressionAt, ExpressionKind, Item, Range, SetOperator, Span,
-    Statement, StatementKind, Step, StepKind, ValueKind,
+    Statement, StatementKind, StepKind, ValueKind,
 };
 use script_values::{Handler, Removed, Task, Value, Walk};
 
@@ -470,13 +470,7 @@ impl Compiler<'_> {
 
     /// Works out a method's value and its place, and then the method. The item may get a name.
     pub fn begin_method(&mut self, at: ExpressionAt, statement: Statement, is_named: bool) {
-        let Some(
-            Step {
-                span,
-                kind: StepKind::Method(arguments),
-            },
-        ) = self.emitter.last_step(at)
-        else {
+        let Some((span, arguments)) = self.method_of(at) else {
             return self.emitter.error_at(at, ErrorKind::NO_METHOD);
         };
         let word = self.emitter.word(span);
@@ -488,15 +482,19 @@ impl Compiler<'_> {
             Ok(value) => value,
             Err(kind) => return self.emitter.error(span, kind),
         };
-        let has_value = value.is_some();
-        let finish = match (is_named, is_push(word)) {
-            (true, true) => Task::DoPush(statement, has_value),
-            (true, false) => Task::DoPop(statement),
-            (false, _) => Task::DoMethod(statement, has_value),
-        };
-        self.emitter.then(&[Task::Place(at, 1), finish]);
+        let task = method_task(statement, is_named, is_push(word), value.is_some());
+        self.emitter.then(&[Task::Place(at, 1), task]);
         if let Some(value) = value {
-            self.emitter.then(&[Task::Evaluate(value, None)])
+            self.emitter.then(&[Task::Evaluate(value, None)]);
+        }
+    }
+
+    /// The name and the arguments of the method at the end of a place.
+    fn method_of(&self, at: ExpressionAt) -> Option<(Span, Range)> {
+        let step = self.emitter.last_step(at)?;
+        match step.kind {
+            StepKind::Method(arguments) => Some((step.span, arguments)),
+            _ => None,
         }
     }
 
@@ -544,18 +542,19 @@ impl Compiler<'_> {
             self.emitter.remove(&place, Removed::Below, statement.span);
         }
         let value = self.hold_pushed(has_value);
-        let handler = if is_push(word) {
-            self.emitter.handler(statement)
-        } else {
-            self.emitter.own_handler(statement)
-        };
+        let handler = self.method_handler(statement, word);
         let code = self.emitter.code.literal_held(0);
         let walk = self.emitter.walk(&place, is_push(word));
         self.emit_method(word, &walk, &place, value, item, code);
-        if let Some(value) = value {
-            self.emitter.code.usage.release(value);
-        }
         self.emitter.close_coded(&walk, handler, code)
+    }
+
+    /// What is done if a method fails. A pop from nothing isn't told.
+    fn method_handler(&mut self, statement: Statement, word: &[u8]) -> Handler {
+        if is_push(word) {
+            return self.emitter.handler(statement);
+        }
+        self.emitter.own_handler(statement)
     }
 
     /// Emits a push or a pop at the end of a walk. If it fails, a register is set to the code.
@@ -576,6 +575,9 @@ impl Compiler<'_> {
         }
         self.emitter.code.close_noting(failed, code);
         self.emitter.code.usage.release(failed);
+        if let Some(value) = value {
+            self.emitter.code.usage.release(value);
+        }
     }
 
     /// Opens the part of an item that is removed.
@@ -615,9 +617,20 @@ impl Compiler<'_> {
         }
         self.open_push(word == b"push".as_slice(), register, walk, item);
         if let Some(value) = value {
-            self.emitter.code.act(Operation::Store, register, value.0)
+            self.emitter.code.act(Operation::Store, register, value.0);
         }
     }
+}
+
+/// The task that does a method.
+fn method_task(statement: Statement, is_named: bool, is_push: bool, has_value: bool) -> Task {
+    if !is_named {
+        return Task::DoMethod(statement, has_value);
+    }
+    if is_push {
+        return Task::DoPush(statement, has_value);
+    }
+    Task::DoPop(statement)
 }
 
 /// The value among a method's arguments, if it has one. Only a push may have one.

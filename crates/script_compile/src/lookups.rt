@@ -181,17 +181,18 @@ impl Compiler<'_> {
             ValueKind::Take(at) => self
                 .emitter
                 .then_place(at, Task::DoTake(statement)),
-            ValueKind::Expression(at) if self.emitter.is_method(at) => {
-                self.begin_method(at, statement, true)
-            }
-            ValueKind::Expression(at) => {
-                if !self.emitter.is_place(at) {
-                    return self.emitter.error(value.span, ErrorKind::NOT_LOOKUP);
-                }
-                self.emitter
-                    .then_place(at, Task::DoLookup(statement))
-            }
+            ValueKind::Expression(at) => self.look_up(statement, value.span, at),
         }
+    }
+
+    fn look_up(&mut self, statement: Statement, span: Span, at: ExpressionAt) {
+        if self.emitter.is_method(at) {
+            return self.begin_method(at, statement, true);
+        }
+        if !self.emitter.is_place(at) {
+            return self.emitter.error(span, ErrorKind::NOT_LOOKUP);
+        }
+        self.emitter.then_place(at, Task::DoLookup(statement))
     }
 
     fn make_new(&mut self, statement: Statement, name: Span, written: Type) {
@@ -503,23 +504,33 @@ impl Compiler<'_> {
         let name = self.held_name(&held, &place);
         let names = self.emitter.names.len();
         self.keep_keys(&mut place, &[body_of(&statement)]);
-        let handler = if code.is_some() {
-            Handler::Nothing
-        } else {
-            self.emitter.handler(statement)
-        };
-        let own_code = self.emitter.code_register(&place, handler);
-        let walk = self.emitter.walk(&place, true);
-        self.bind_walk(name, &place, &walk);
-        self.emitter.use_last_name();
-        let close = match code {
-            Some(code) => Task::CloseNoting(walk, code),
-            None => Task::CloseWalk(walk, handler, own_code),
-        };
+        let close = self.hold_place(statement, name, &place, code);
         self.emitter.then(&[Task::EndScope(names), close]);
         let inner = self.emitter.names.len();
         let [first, second] = self.after_held(&statement, number, code, inner);
         self.emitter.then(&[first, second])
+    }
+
+    /// Finds or makes a place, and binds it. Returns the task that ends its parts.
+    fn hold_place(
+        &mut self,
+        statement: Statement,
+        name: Span,
+        place: &Place,
+        code: Option<Register>,
+    ) -> Task {
+        let handler = match code {
+            Some(_) => Handler::Nothing,
+            None => self.emitter.handler(statement),
+        };
+        let own_code = self.emitter.code_register(place, handler);
+        let walk = self.emitter.walk(place, true);
+        self.bind_walk(name, place, &walk);
+        self.emitter.use_last_name();
+        match code {
+            Some(code) => Task::CloseNoting(walk, code),
+            None => Task::CloseWalk(walk, handler, own_code),
+        }
     }
 
     /// Finds or makes the last place, and binds it without holding it.

@@ -267,7 +267,6 @@ impl Compiler<'_> {
     }
 
     fn begin_turn(&mut self, found: Loop) {
-        let names = self.emitter.names.len();
         let block = body_of(&found.statement);
         let StatementKind::For { key, name, .. } = found.statement.kind else {
             return self
@@ -275,21 +274,13 @@ impl Compiler<'_> {
                 .then(&[Task::Block(block), Task::NextTurn(found)]);
         };
         match found.turn {
-            Turn::Input(byte) => {
-                self.open_input(name, byte);
-                self.emitter.then(&[Task::Body(block, names, false), Task::EndInput(found.go)])
-            }
+            Turn::Input(byte) => self.begin_byte(found, name, byte),
             Turn::Numbers {
                 index,
                 digits,
                 is_positive,
                 ..
-            } => {
-                self.emitter
-                    .bind(name, Meaning::loop_number(index, digits, is_positive));
-                self.emitter
-                    .then(&[Task::Body(block, names, false), Task::NextTurn(found)])
-            }
+            } => self.begin_number(found, name, Meaning::loop_number(index, digits, is_positive)),
             Turn::Items {
                 place,
                 key: register,
@@ -298,6 +289,26 @@ impl Compiler<'_> {
                 .emitter
                 .then(&[Task::Block(block), Task::NextTurn(found)]),
         }
+    }
+
+    /// Binds the number of a turn, and does the body.
+    fn begin_number(&mut self, found: Loop, name: Span, meaning: Meaning) {
+        let names = self.emitter.names.len();
+        self.emitter.bind(name, meaning);
+        self.emitter.then(&[
+            Task::Body(body_of(&found.statement), names, false),
+            Task::NextTurn(found),
+        ])
+    }
+
+    /// Reads a byte of the input, binds it, and does the body.
+    fn begin_byte(&mut self, found: Loop, name: Span, byte: Register) {
+        let names = self.emitter.names.len();
+        self.open_input(name, byte);
+        self.emitter.then(&[
+            Task::Body(body_of(&found.statement), names, false),
+            Task::EndInput(found.go),
+        ])
     }
 
     /// Opens the part of a turn that has a byte of the input.
@@ -396,11 +407,7 @@ impl Compiler<'_> {
     pub fn next_turn(&mut self, found: Loop) {
         self.emitter.code.usage.tidy();
         self.emitter.code.span = found.statement.span;
-        let breaks = match self.constructs.last() {
-            Some(construct) => construct.breaks,
-            None => 0,
-        };
-        if breaks > 0 {
+        if self.breaks() > 0 {
             self.emitter.code.open_if(found.go);
             self.emitter.then(&[Task::Else, Task::EndPart]);
         }
@@ -415,6 +422,14 @@ impl Compiler<'_> {
                 Task::Evaluate(condition, Some(found.go)),
                 Task::MoveTo(found.go),
             ]),
+        }
+    }
+
+    /// How many statements leave the innermost construct, or a loop around it.
+    fn breaks(&self) -> usize {
+        match self.constructs.last() {
+            Some(construct) => construct.breaks,
+            None => 0,
         }
     }
 
@@ -462,7 +477,7 @@ impl Compiler<'_> {
         if let Some(part) = found.statement.otherwise {
             self.emitter.code.open_if(found.go);
             self.emitter
-                .then(&[Task::Block(part.block), Task::Else, Task::EndPart])
+                .then(&[Task::Block(part.block), Task::Else, Task::EndPart]);
         }
     }
 

@@ -162,6 +162,12 @@ impl Compiler<'_> {
             StatementKind::Call(at) => self.begin_call_statement(statement, at),
             StatementKind::Freeze { .. } => self.begin_freeze(statement),
             StatementKind::Share { .. } => self.begin_share(statement),
+            _ => self.begin_removal(statement),
+        }
+    }
+
+    fn begin_removal(&mut self, statement: Statement) {
+        match statement.kind {
             StatementKind::Delete(at) => self.begin_delete(statement, at),
             StatementKind::Clear(at) => {
                 self.emitter

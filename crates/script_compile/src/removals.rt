@@ -18,16 +18,22 @@ impl Compiler<'_> {
         let tree = self.emitter.tree;
         let steps = tree.steps(steps);
         let found = self.deleted_object(span);
-        match (found, steps) {
-            (Some((object, ObjectKind::Array(_))), []) => self.delete_object(object, None, span),
-            (Some((_, ObjectKind::Array(_))), _) => {
-                self.emitter.error(span, ErrorKind::ARRAY_DELETED_WHOLE)
+        if let Some((object, ObjectKind::Array(_))) = found {
+            if steps.is_empty() {
+                return self.delete_object(object, None, span);
             }
-            (Some((_, ObjectKind::Family)), [_]) | (Some(_), []) => {
-                self.emitter.then_place(at, Task::DoDelete(statement))
-            }
-            _ => self.begin_delete_item(statement, at, steps),
+            return self.emitter.error(span, ErrorKind::ARRAY_DELETED_WHOLE);
         }
+        let most_steps = match found {
+            Some((_, ObjectKind::Family)) => 1,
+            _ => 0,
+        };
+        if found.is_some() && steps.len() <= most_steps {
+            return self
+                .emitter
+                .then_place(at, Task::DoDelete(statement));
+        }
+        self.begin_delete_item(statement, at, steps)
     }
 
     /// The object that a name stands for, and its kind. A local name hides an object.
@@ -41,13 +47,11 @@ impl Compiler<'_> {
     }
 
     fn begin_delete_item(&mut self, statement: Statement, at: ExpressionAt, steps: &[Step]) {
-        match steps.last() {
-            Some(
-                Step {
-                    kind: StepKind::Index(key),
-                    ..
-                },
-            ) => self.begin_delete_key(statement, at, *key),
+        let Some(step) = steps.last() else {
+            return self.emitter.error_at(at, ErrorKind::DELETED_VALUE);
+        };
+        match step.kind {
+            StepKind::Index(key) => self.begin_delete_key(statement, at, key),
             _ => self.emitter.error_at(at, ErrorKind::DELETED_VALUE),
         }
     }
@@ -75,10 +79,7 @@ impl Compiler<'_> {
         else {
             return self.emitter.skip();
         };
-        let key = match self.emitter.known_number(key) {
-            Some(value) => Key::Literal(value),
-            None => Key::Register(self.emitter.pop_value().register),
-        };
+        let key = self.last_key(key);
         self.emitter.enter_content(&mut place);
         if !self.emitter.program.types.shape(place.value_type).is_map() {
             return self
@@ -89,6 +90,14 @@ impl Compiler<'_> {
         self.emitter
             .remove(&place, Removed::Key(key), statement.span);
         self.emit_delete_key(&place, key)
+    }
+
+    /// The key that an expression is, or that was worked out last.
+    fn last_key(&mut self, key: ExpressionAt) -> Key {
+        match self.emitter.known_number(key) {
+            Some(value) => Key::Literal(value),
+            None => Key::Register(self.emitter.pop_value().register),
+        }
     }
 
     fn emit_delete_key(&mut self, place: &Place, key: Key) {

@@ -64,10 +64,10 @@ impl Emitter<'_> {
     /// Declares what other declarations may use.
     fn declare_name(&mut self, declaration: Declaration) {
         let name = declaration.span;
-        match declaration.kind {
-            DeclarationKind::Fail(block) => return self.declare_fail(name, block),
-            _ => self.check_new(name),
+        if let DeclarationKind::Fail(block) = declaration.kind {
+            return self.declare_fail(name, block);
         }
+        self.check_new(name);
         match declaration.kind {
             DeclarationKind::Constant(expression) => self.add_constant(name, expression),
             DeclarationKind::Struct(_) => self.add_struct(name),
@@ -81,12 +81,7 @@ impl Emitter<'_> {
                 gives_number,
                 body,
             }),
-            DeclarationKind::Object { count, .. } => {
-                self.add_object(name, object_kind(count.is_some()))
-            }
-            DeclarationKind::Family { .. } => self.add_object(name, ObjectKind::Family),
-            DeclarationKind::Unique(_) => self.add_object(name, ObjectKind::Unique),
-            DeclarationKind::Fail(_) => {}
+            kind => self.add_object(name, object_kind(kind)),
         }
     }
 
@@ -445,11 +440,13 @@ fn add_member(waiting: &mut Vec<usize>, member: usize, trouble: &mut Trouble) {
     append(waiting, member, trouble);
 }
 
-fn object_kind(is_array: bool) -> ObjectKind {
-    if is_array {
-        ObjectKind::Array(1)
-    } else {
-        ObjectKind::Single
+/// The kind of a declared object. The length of an array isn't known yet.
+fn object_kind(kind: DeclarationKind) -> ObjectKind {
+    match kind {
+        DeclarationKind::Object { count: Some(_), .. } => ObjectKind::Array(1),
+        DeclarationKind::Family { .. } => ObjectKind::Family,
+        DeclarationKind::Unique(_) => ObjectKind::Unique,
+        _ => ObjectKind::Single,
     }
 }
 

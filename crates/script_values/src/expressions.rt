@@ -402,16 +402,19 @@ impl Emitter<'_> {
         let Some(expression) = tree.expression(at) else {
             return false;
         };
-        let trouble = &mut self.code.trouble;
         match expression.kind {
             ExpressionKind::Number(_) | ExpressionKind::Text(_) => {}
-            ExpressionKind::Unary(_, operand) => add_expression(waiting, operand, trouble),
+            ExpressionKind::Unary(_, operand) => {
+                add_expression(waiting, operand, &mut self.code.trouble)
+            }
             ExpressionKind::Binary(_, left, right) | ExpressionKind::OrElse(left, right) => {
-                add_expression(waiting, left, trouble);
-                add_expression(waiting, right, trouble);
+                add_expression(waiting, left, &mut self.code.trouble);
+                add_expression(waiting, right, &mut self.code.trouble);
             }
             ExpressionKind::Call(_) => return true,
-            ExpressionKind::Place(steps) => add_operands(tree, waiting, steps, trouble),
+            ExpressionKind::Place(steps) => {
+                add_operands(tree, waiting, steps, &mut self.code.trouble)
+            }
         }
         false
     }
