@@ -35,7 +35,7 @@ pub enum Known {
 }
 
 /// A register's contents. The stamp changes each time that the register is set.
-#[derive(Clone, Copy, PartialEq, Eq)]
+#[derive(Clone, Copy)]
 pub struct Contents {
     pub known: Known,
     pub stamp: usize,
