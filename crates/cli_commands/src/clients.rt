@@ -11,8 +11,8 @@ use cli_host::{
 };
 use cli_program::{Failure, print, read_input};
 use client_trace::{Untraced, trace_program};
-use lezgauri::{Fault, Image, Ready, Sink};
-use std::alloc::Global;
+use lezgauri::{Fault, Image, Ready, Sink, Verified};
+use std::alloc::{AllocError, Global};
 
 /// `verify FILE CLIENT`: prints the most steps that the client can take on the image; of a program also what each line takes, if
 /// that is asked for.
@@ -31,21 +31,41 @@ pub fn verify_file<'a, F: Files, O: Sink, E: Sink>(
     let bytes = read_file(alloc, files, client)?;
     let image = opened(alloc, image)?;
     let source = Source::new(alloc, client, bytes, image.types(), err)?;
-    let verified = verified(&image, source.client())?;
+    verify_source(alloc, &image, &source, explained, out)
+}
+
+fn verify_source<'a, O: Sink>(
+    alloc: Global,
+    image: &Image<Global>,
+    source: &Source,
+    explained: bool,
+    out: &mut O,
+) -> Result<(), Failure<'a>>
+    requires works { O.has_failed out.old ≡ false }
+{
+    let verified = verified(image, source.client())?;
     let bound = verified.bound();
     print(out, format!(in alloc; "steps {bound}\n")?.as_bytes())?;
-    match source.program() {
-        Some(text) if explained && !out.failed() => {
-            let lines = source.lines(alloc, image.types())?;
-            let program = ProgramLines {
-                text,
-                lines: lines.as_slice(),
-            };
-            let table = explain_steps(alloc, program, &verified.client(), bound)?;
-            print(out, table.as_bytes())
-        }
-        _ => Ok(()),
+    let Some(text) = source.program() else {
+        return Ok(());
+    };
+    if !explained || out.failed() {
+        return Ok(());
     }
+    let lines = source.lines(alloc, image.types())?;
+    let table = steps_of(alloc, text, lines.as_slice(), &verified)?;
+    print(out, table.as_bytes())
+}
+
+/// What each line of a program costs.
+fn steps_of(
+    alloc: Global,
+    text: &[u8],
+    lines: &[usize],
+    verified: &Verified,
+) -> Result<String, AllocError> {
+    let program = ProgramLines { text, lines };
+    explain_steps(alloc, program, &verified.client(), verified.bound())
 }
 
 /// `trace IMAGE CLIENT [--input FILE]`: prints each step of the client on the image with the registers' contents.
@@ -63,16 +83,21 @@ pub fn trace_file<'a, F: Files, O: Sink, E: Sink>(
     let input = read_input(alloc, files, traced.input)?;
     let mut image = opened(alloc, image)?;
     let source = Source::new(alloc, traced.client, bytes, image.types(), err)?;
+    trace_source(alloc, &mut image, &source, input.as_slice(), out)
+}
+
+fn trace_source<'a, O: Sink>(
+    alloc: Global,
+    image: &mut Image<Global>,
+    source: &Source,
+    input: &[u8],
+    out: &mut O,
+) -> Result<(), Failure<'a>>
+    requires works { O.has_failed out.old ≡ false }
+{
     let lines = source.lines(alloc, image.types())?;
-    let client = ready(alloc, &image, source.client())?;
-    match trace_client(
-        alloc,
-        &mut image,
-        &client,
-        lines.as_slice(),
-        input.as_slice(),
-        out,
-    ) {
+    let client = ready(alloc, image, source.client())?;
+    match trace_client(alloc, image, &client, lines.as_slice(), input, out) {
         Ok(()) => Ok(()),
         Err(untraced) => Err(ended(untraced)),
     }

@@ -6,6 +6,7 @@ use lezgauri::{
     parse, prepare, print, verify,
 };
 use script_compile::{Refusal, client_of, compile};
+use script_syntax::{Span, Tree};
 use std::alloc::{AllocError, Global};
 
 pub(crate) fn created(
@@ -79,22 +80,31 @@ pub(crate) fn lines_of(
     program: &[u8],
     types: &TypeTable,
 ) -> Result<Vec<usize>, AllocError> {
-    let mut lines = Vec::new(alloc);
-    let tree = match script_syntax::parse(alloc, program) {
-        Ok(tree) => tree,
-        Err(script_syntax::Failure::Errors(_)) => return Ok(lines),
-        Err(script_syntax::Failure::Memory) => return Err(AllocError),
-    };
-    match compile(alloc, &tree, types) {
-        Ok(client) => {
-            for place in &client.places {
-                lines.push(place.line)?;
-            }
-            Ok(lines)
-        }
-        Err(script_compile::Failure::Errors(_)) => Ok(lines),
+    match script_syntax::parse(alloc, program) {
+        Ok(tree) => lines_of_tree(alloc, &tree, types),
+        Err(script_syntax::Failure::Errors(_)) => Ok(Vec::new(alloc)),
+        Err(script_syntax::Failure::Memory) => Err(AllocError),
+    }
+}
+
+fn lines_of_tree(
+    alloc: Global,
+    tree: &Tree<'_>,
+    types: &TypeTable,
+) -> Result<Vec<usize>, AllocError> {
+    match compile(alloc, tree, types) {
+        Ok(client) => lines_in(alloc, client.places.as_slice()),
+        Err(script_compile::Failure::Errors(_)) => Ok(Vec::new(alloc)),
         Err(script_compile::Failure::Memory) => Err(AllocError),
     }
+}
+
+fn lines_in(alloc: Global, places: &[Span]) -> Result<Vec<usize>, AllocError> {
+    let mut lines = Vec::new(alloc);
+    for place in places {
+        lines.push(place.line)?;
+    }
+    Ok(lines)
 }
 
 /// The canonical text of a client.

@@ -100,9 +100,9 @@ fn told_client<'a, E: Sink>(
     types: &TypeTable,
     err: &mut E,
 ) -> Result<Vec<u8>, Failure<'a>> {
-    let client = compiled(alloc, name, text, types)?;
-    tell_warnings(&client.warnings, err);
-    Ok(client.bytes)
+    let Client { bytes, warnings } = compiled(alloc, name, text, types)?;
+    tell_warnings(&warnings, err);
+    Ok(bytes)
 }
 
 /// Tells warnings on the error output, unless that has failed.
@@ -160,17 +160,33 @@ fn compile_all<'a>(
     types: TypeTable,
 ) -> Result<Compiled, Failure<'a>> {
     let mut types = types;
-    let mut clients = Vec::new(alloc);
-    let mut warnings = String::new(alloc);
+    let mut compiled = Compiled {
+        clients: Vec::new(alloc),
+        warnings: String::new(alloc),
+    };
     for (name, source) in names.iter().zip(sources) {
-        let client = client_of(alloc, name, source.as_slice(), &types)?;
-        warnings.push_str(client.warnings.as_str())?;
-        types = types_after(types, client.bytes.as_slice());
-        if clients.push(client.bytes).is_err() {
-            return Err(Failure::from(Fault::Memory));
+        types = compiled.add(alloc, name, source.as_slice(), types)?;
+    }
+    Ok(compiled)
+}
+
+impl Compiled {
+    /// Adds the client in a file with this name, for an image with these types. Returns the types that it leaves.
+    fn add<'a>(
+        &mut self,
+        alloc: Global,
+        name: &str,
+        source: &[u8],
+        types: TypeTable,
+    ) -> Result<TypeTable, Failure<'a>> {
+        let Client { bytes, warnings } = client_of(alloc, name, source, &types)?;
+        self.warnings.push_str(warnings.as_str())?;
+        let types = types_after(types, bytes.as_slice());
+        match self.clients.push(bytes) {
+            Ok(()) => Ok(types),
+            Err(_) => Err(Failure::from(Fault::Memory)),
         }
     }
-    Ok(Compiled { clients, warnings })
 }
 
 /// The client in a file with this name, for an image with these types. A program is compiled.
@@ -203,7 +219,7 @@ pub(crate) fn compiled_again(
         return sources;
     };
     match compile_all(alloc, names, sources.as_slice(), types) {
-        Ok(compiled) => compiled.clients,
+        Ok(Compiled { clients, .. }) => clients,
         Err(_) => Vec::new(alloc),
     }
 }
