@@ -56,7 +56,7 @@ fn client_of_tree(
     image: &TypeTable,
 ) -> Result<Client, Refusal> {
     match compile(alloc, tree, image) {
-        Ok(compiled) => match client(alloc, file, text, &compiled) {
+        Ok(compiled) => match told_client(alloc, file, text, &compiled) {
             Ok(client) => Ok(client),
             Err(_) => Err(Refusal::Memory),
         },
@@ -65,7 +65,8 @@ fn client_of_tree(
     }
 }
 
-fn client(
+/// The client, with its warnings.
+fn told_client(
     alloc: Global,
     file: &str,
     text: &[u8],
