@@ -543,9 +543,21 @@ impl Compiler<'_> {
         }
         let value = self.hold_pushed(has_value);
         let handler = self.method_handler(statement, word);
+        self.walk_method(word, &place, value, item, handler)
+    }
+
+    /// Goes to a place, and does a method there.
+    fn walk_method(
+        &mut self,
+        word: &[u8],
+        place: &Place,
+        value: Option<Register>,
+        item: TypeAt,
+        handler: Handler,
+    ) {
         let code = self.emitter.code.literal_held(0);
-        let walk = self.emitter.walk(&place, is_push(word));
-        self.emit_method(word, &walk, &place, value, item, code);
+        let walk = self.emitter.walk(place, is_push(word));
+        self.emit_method(word, &walk, place, value, item, code);
         self.emitter.close_coded(&walk, handler, code)
     }
 

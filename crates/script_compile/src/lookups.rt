@@ -547,6 +547,11 @@ impl Compiler<'_> {
         self.bind_place(name, place);
         self.emitter.use_last_name();
         self.emitter.then(&[Task::EndScope(names)]);
+        self.after_flat(statement, number, code)
+    }
+
+    /// Continues with the next place of a `use`, or its body.
+    fn after_flat(&mut self, statement: Statement, number: usize, code: Register) {
         let next = number.saturating_add(1);
         match self.held_place(&statement, next) {
             Some((held, _)) => {

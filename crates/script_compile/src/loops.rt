@@ -33,13 +33,15 @@ impl Compiler<'_> {
                 Some(key) => self.emitter.error(key, ErrorKind::RANGE_PAIR),
                 None => self.begin_numbers(statement, first, end),
             },
-            Source::Place(at) => {
-                if !self.emitter.is_place(at) {
-                    return self.emitter.error_at(at, ErrorKind::NO_SOURCE);
-                }
-                self.emitter.then_place(at, Task::DoItems(statement))
-            }
+            Source::Place(at) => self.begin_items(statement, at),
         }
+    }
+
+    fn begin_items(&mut self, statement: Statement, at: ExpressionAt) {
+        if !self.emitter.is_place(at) {
+            return self.emitter.error_at(at, ErrorKind::NO_SOURCE);
+        }
+        self.emitter.then_place(at, Task::DoItems(statement))
     }
 
     fn begin_input(&mut self, statement: Statement, max: Option<ExpressionAt>) {
@@ -189,6 +191,11 @@ impl Compiler<'_> {
                 .type_error(span, ErrorKind::NOT_CONTAINER, place.value_type);
         }
         let turns = self.emitter.needed_turns(statement.span, max);
+        self.open_items(statement, place, turns)
+    }
+
+    fn open_items(&mut self, statement: Statement, place: Place, turns: i32) {
+        let mut place = place;
         let names = self.emitter.names.len();
         self.emitter.then(&[Task::EndScope(names)]);
         self.keep_keys(&mut place, &[body_of(&statement)]);
@@ -336,11 +343,7 @@ impl Compiler<'_> {
         let names = self.emitter.names.len();
         let body = Task::Body(body_of(&found.statement), names, false);
         let is_map = self.emitter.program.types.shape(place.value_type).is_map();
-        let (key, item) = match key {
-            Some(key) => (Some(key), Some(name)),
-            None if is_map => (Some(name), None),
-            None => (None, Some(name)),
-        };
+        let (key, item) = names_of_turn(key, name, is_map);
         if let Some(key) = key {
             let digits = if is_map { MOST_DIGITS } else { 10 };
             self.emitter
@@ -554,6 +557,14 @@ impl Compiler<'_> {
             construct.mark = mark;
         }
     }
+}
+
+/// The names of the key and of the item of a turn. The only name of a loop over a map is the key's.
+fn names_of_turn(key: Option<Span>, name: Span, is_map: bool) -> (Option<Span>, Option<Span>) {
+    if is_map && key.is_none() {
+        return (Some(name), None);
+    }
+    (key, Some(name))
 }
 
 /// The step to an item of a container.

@@ -56,10 +56,7 @@ fn client_of_tree(
     image: &TypeTable,
 ) -> Result<Client, Refusal> {
     match compile(alloc, tree, image) {
-        Ok(compiled) => match told_client(alloc, file, text, &compiled) {
-            Ok(client) => Ok(client),
-            Err(_) => Err(Refusal::Memory),
-        },
+        Ok(compiled) => accepted(told_client(alloc, file, text, &compiled)),
         Err(Failure::Errors(wrong)) => Err(refused(error_lines(alloc, file, text, &wrong))),
         Err(Failure::Memory) => Err(Refusal::Memory),
     }
@@ -77,6 +74,13 @@ fn told_client(
         bytes: compiled.file(alloc)?,
         warnings,
     })
+}
+
+fn accepted(client: Result<Client, AllocError>) -> Result<Client, Refusal> {
+    match client {
+        Ok(client) => Ok(client),
+        Err(_) => Err(Refusal::Memory),
+    }
 }
 
 /// The refusal with these lines.
