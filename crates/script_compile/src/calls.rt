@@ -311,12 +311,13 @@ impl Compiler<'_> {
         }
     }
 
-    fn end_result(&mut self, result: Register, wants_value: bool) {
+    /// Pushes the number that a function gave, unless it isn't wanted.
+    fn end_result(&mut self, register: Register, wants_value: bool) {
         if wants_value {
-            self.emitter.code.usage.keep(result);
-            return self.emitter.push_value(result, true);
+            self.emitter.code.usage.keep(register);
+            return self.emitter.push_value(register, true);
         }
-        self.emitter.code.usage.release(result);
+        self.emitter.code.usage.release(register);
     }
 
     /// Keeps the keys of a place while a name refers to it. A key whose variable is set in these

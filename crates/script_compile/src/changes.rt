@@ -22,9 +22,7 @@ impl Compiler<'_> {
             }
         }
         if self.emitter.is_text(place) {
-            return self
-                .emitter
-                .then_place(place, Task::DoText(statement));
+            return self.emitter.then_place(place, Task::DoText(statement));
         }
         if self.is_own(place) {
             return self.begin_put(statement, place, items);
@@ -231,9 +229,7 @@ impl Compiler<'_> {
         };
         let tree = self.emitter.tree;
         match tree.items(items) {
-            [item] if operator == SetOperator::Set => {
-                self.begin_move(statement, place, item)
-            }
+            [item] if operator == SetOperator::Set => { self.begin_move(statement, place, item) }
             _ => self
                 .emitter
                 .error(operator_span(&statement), ErrorKind::ONLY_NUMBERS),

@@ -84,10 +84,7 @@ impl Compiler<'_> {
 
     fn is_object_name(&self, name: Span) -> bool {
         let word = self.emitter.word(name);
-        let found = self
-            .emitter
-            .program
-            .object_named(self.emitter.tree, word);
+        let found = self.emitter.program.object_named(self.emitter.tree, word);
         found.is_some()
     }
 
@@ -178,9 +175,7 @@ impl Compiler<'_> {
         };
         match value.kind {
             ValueKind::New(written) => self.make_new(statement, name, written),
-            ValueKind::Take(at) => self
-                .emitter
-                .then_place(at, Task::DoTake(statement)),
+            ValueKind::Take(at) => self.emitter.then_place(at, Task::DoTake(statement)),
             ValueKind::Expression(at) => self.look_up(statement, value.span, at),
         }
     }
@@ -270,8 +265,7 @@ impl Compiler<'_> {
             register,
             Known::Owner(content),
         );
-        self.emitter
-            .then(&[Task::CloseWalk(walk, handler, code)]);
+        self.emitter.then(&[Task::CloseWalk(walk, handler, code)]);
         self.own(statement, name, register, content, handler)
     }
 
@@ -297,13 +291,7 @@ impl Compiler<'_> {
         self.look_up_place(statement, name, place, handler)
     }
 
-    fn look_up_place(
-        &mut self,
-        statement: Statement,
-        name: Span,
-        place: Place,
-        handler: Handler,
-    ) {
+    fn look_up_place(&mut self, statement: Statement, name: Span, place: Place, handler: Handler) {
         let mut place = place;
         let names = self.emitter.names.len();
         self.keep_keys(&mut place, &[body_of(&statement)]);
@@ -624,8 +612,10 @@ impl Compiler<'_> {
             Some(pushed) => Task::Release(pushed),
             None => Task::At(statement.span),
         };
-        self.emitter
-            .then(&[Task::Release(register), Task::CloseWalk(walk, handler, code)]);
+        self.emitter.then(&[
+            Task::Release(register),
+            Task::CloseWalk(walk, handler, code),
+        ]);
         self.emitter.then(&[
             body_task(&statement, names),
             Task::Else,
@@ -788,7 +778,9 @@ impl Compiler<'_> {
             }
         };
         let registers = [to.0, from.0, index.0];
-        self.emitter.code.open(Operation::At, registers, Operand::Plain(0), to, known);
+        self.emitter
+            .code
+            .open(Operation::At, registers, Operand::Plain(0), to, known);
         if !is_text {
             self.emitter.code.read(Operation::Load, to, to);
         }

@@ -69,9 +69,7 @@ impl Compiler<'_> {
 
     fn begin_numbers(&mut self, statement: Statement, first: ExpressionAt, end: ExpressionAt) {
         if self.emitter.known_number(end).is_some() {
-            return self
-                .emitter
-                .then_fresh(first, Task::DoNumbers(statement));
+            return self.emitter.then_fresh(first, Task::DoNumbers(statement));
         }
         self.emitter.then_fresh(end, Task::DoNumbers(statement));
         self.emitter
@@ -287,7 +285,11 @@ impl Compiler<'_> {
                 digits,
                 is_positive,
                 ..
-            } => self.begin_number(found, name, Meaning::loop_number(index, digits, is_positive)),
+            } => self.begin_number(
+                found,
+                name,
+                Meaning::loop_number(index, digits, is_positive),
+            ),
             Turn::Items {
                 place,
                 key: register,

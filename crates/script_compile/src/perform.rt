@@ -170,8 +170,7 @@ impl Compiler<'_> {
         match statement.kind {
             StatementKind::Delete(at) => self.begin_delete(statement, at),
             StatementKind::Clear(at) => {
-                self.emitter
-                    .then_place(at, Task::DoClear(statement, at))
+                self.emitter.then_place(at, Task::DoClear(statement, at))
             }
             StatementKind::Shrink(at) => self.emitter.then_place(at, Task::DoShrink(at)),
             _ => {}

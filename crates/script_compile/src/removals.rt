@@ -29,9 +29,7 @@ impl Compiler<'_> {
             _ => 0,
         };
         if found.is_some() && steps.len() <= most_steps {
-            return self
-                .emitter
-                .then_place(at, Task::DoDelete(statement));
+            return self.emitter.then_place(at, Task::DoDelete(statement));
         }
         self.begin_delete_item(statement, at, steps)
     }
@@ -158,15 +156,15 @@ impl Compiler<'_> {
         self.emitter.code.set_number(result);
     }
 
-    fn emit_kill_unique(&mut self, value_type: TypeAt, result: Register) {
+    fn emit_kill_unique(&mut self, value_type: TypeAt, to: Register) {
         let operand = Operand::Type(value_type);
         self.emitter
             .code
-            .emit(Operation::KillUnique, [result.0, 0, 0], operand);
+            .emit(Operation::KillUnique, [to.0, 0, 0], operand);
         self.emitter.code.end_class(Class::Unique(value_type))
     }
 
-    fn emit_kill(&mut self, object: Object, key: Option<Key>, result: Register) {
+    fn emit_kill(&mut self, object: Object, key: Option<Key>, to: Register) {
         let number = match key {
             Some(key) => {
                 let (register, _) = self.emitter.key_register(key);
@@ -177,7 +175,7 @@ impl Compiler<'_> {
         let operand = Operand::Named(object.value_type, object.constant);
         self.emitter
             .code
-            .emit(Operation::Kill, [result.0, number, 0], operand);
+            .emit(Operation::Kill, [to.0, number, 0], operand);
         self.emitter.code.end_class(Class::Named(object.constant))
     }
 

@@ -100,11 +100,19 @@ impl Emitter<'_> {
             first: 0,
             end: 0,
         };
-        append(&mut self.program.types.structs, added, &mut self.code.trouble)
+        append(
+            &mut self.program.types.structs,
+            added,
+            &mut self.code.trouble,
+        )
     }
 
     fn add_function(&mut self, function: Function) {
-        append(&mut self.program.functions, function, &mut self.code.trouble)
+        append(
+            &mut self.program.functions,
+            function,
+            &mut self.code.trouble,
+        )
     }
 
     fn add_object(&mut self, name: Span, kind: ObjectKind) {

@@ -72,10 +72,7 @@ impl Emitter<'_> {
         operand: ExpressionAt,
         into: Option<Register>,
     ) {
-        self.then(&[
-            Task::Evaluate(operand, None),
-            Task::Unary(operator, into),
-        ])
+        self.then(&[Task::Evaluate(operand, None), Task::Unary(operator, into)])
     }
 
     fn evaluate_place(&mut self, at: ExpressionAt, into: Option<Register>) {

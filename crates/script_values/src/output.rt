@@ -4,8 +4,8 @@ use crate::emitter::Emitter;
 use crate::task::{Handler, Output, Task, TextTarget, Walk};
 use client_code::{ConstantKind, LONGEST, Operation};
 use script_code::{
-    Code, ConstantAt, ErrorKind, Folded, Known, Operand, Place, Register, TypeAt,
-    WarningKind, append_bytes,
+    Code, ConstantAt, ErrorKind, Folded, Known, Operand, Place, Register, TypeAt, WarningKind,
+    append_bytes,
 };
 use script_syntax::{
     ExpressionAt, Item, Range, SetOperator, Span, Statement, StatementKind, ValueKind,

@@ -202,9 +202,7 @@ impl Emitter<'_> {
                 resolving.place.root = Root::Owner(at);
                 resolving.place.value_type = value_type;
             }
-            Meaning::Place { place, .. } => {
-                self.resolve_named(resolving, at, name.id, &place)
-            }
+            Meaning::Place { place, .. } => { self.resolve_named(resolving, at, name.id, &place) }
             Meaning::Hidden(_) | Meaning::Unknown => self.skip(),
         }
     }
