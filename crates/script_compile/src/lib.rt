@@ -3,14 +3,11 @@
 
 mod blocks;
 mod calls;
-mod changes;
 mod compiler;
 mod entry;
-mod lookups;
 mod loops;
 mod nests;
 mod perform;
-mod removals;
 mod report;
 
 pub use entry::{Failure, Wrong, compile};

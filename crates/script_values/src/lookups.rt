@@ -1,6 +1,8 @@
 //! `let`, `if let` and `use`.
 
-use crate::compiler::Compiler;
+use crate::emitter::Emitter;
+use crate::task::{Handler, Task, Walk};
+use crate::walks::Removed;
 use client_code::Operation;
 use script_code::{
     About, ErrorKind, Key, Known, MOST_DIGITS, Meaning, NOWHERE, Operand, Place, Register, Root,
@@ -10,7 +12,6 @@ use script_syntax::{
     Block, Container, ExpressionAt, Held, Range, Span, Statement, StatementKind, Type, Value,
     ValueKind,
 };
-use script_values::{Handler, Removed, Task, Walk};
 
 /// The code of an item that isn't there.
 const NO_ITEM: i64 = 6;
@@ -50,7 +51,7 @@ struct Push {
     pushed: Option<Register>,
 }
 
-impl Compiler<'_> {
+impl Emitter<'_> {
     /// The name and the value of a `let` or an `if let`.
     fn named_value(&self, statement: &Statement) -> Option<(Span, Value)> {
         match statement.kind {
@@ -63,35 +64,33 @@ impl Compiler<'_> {
 
     pub fn begin_let(&mut self, statement: Statement) {
         let Some((name, value)) = self.named_value(&statement) else {
-            return self.emitter.skip();
+            return self.skip();
         };
         if self.is_object_name(name) {
-            return self.emitter.error(name, ErrorKind::OBJECT_NAME);
+            return self.error(name, ErrorKind::OBJECT_NAME);
         }
         if statement.body.is_some() {
             return self.begin_lookup(statement);
         }
         let ValueKind::Expression(at) = value.kind else {
-            return self.emitter.skip();
+            return self.skip();
         };
-        if !self.emitter.is_place(at) || self.is_variable(at) {
-            return self
-                .emitter
-                .then_fresh(at, Task::BindNumber(name, MOST_DIGITS));
+        if !self.is_place(at) || self.is_variable(at) {
+            return self.then_fresh(at, Task::BindNumber(name, MOST_DIGITS));
         }
-        self.emitter.then_place(at, Task::DoLet(name, at))
+        self.then_place(at, Task::DoLet(name, at))
     }
 
     fn is_object_name(&self, name: Span) -> bool {
-        let word = self.emitter.word(name);
-        let found = self.emitter.program.object_named(self.emitter.tree, word);
+        let word = self.word(name);
+        let found = self.program.object_named(self.tree, word);
         found.is_some()
     }
 
     /// Whether an expression is the name of a number.
     pub fn is_variable(&self, at: ExpressionAt) -> bool {
-        match self.emitter.plain_name(at) {
-            Some(name) => match self.emitter.names.get(name) {
+        match self.plain_name(at) {
+            Some(name) => match self.names.get(name) {
                 Some(name) => matches!(name.meaning, Meaning::Number { .. }),
                 None => false,
             },
@@ -101,37 +100,36 @@ impl Compiler<'_> {
 
     /// Gives the last place a name, or its number if it is one.
     pub fn finish_let(&mut self, name: Span, at: ExpressionAt) {
-        let place = self.emitter.pop_place();
-        if self.emitter.is_number(&place) {
+        let place = self.pop_place();
+        if self.is_number(&place) {
             let digits = if place.is_length { 10 } else { MOST_DIGITS };
-            self.emitter.push_place(place);
-            return self.emitter.then(&[
+            self.push_place(place);
+            return self.then(&[
                 Task::Load(at, None),
                 Task::Fresh,
                 Task::BindNumber(name, digits),
             ]);
         }
-        if self.emitter.fallible(&place) > 0 {
-            return self.emitter.error_at(at, ErrorKind::LET_ABSENT);
+        if self.fallible(&place) > 0 {
+            return self.error_at(at, ErrorKind::LET_ABSENT);
         }
-        if self.emitter.openers(&place) > 0 {
+        if self.openers(&place) > 0 {
             return self.bind_place(name, place);
         }
-        let walk = self.emitter.walk(&place, false);
+        let walk = self.walk(&place, false);
         self.bind_walk(name, &place, &walk);
-        self.emitter.close_walk(&walk)
+        self.close_walk(&walk)
     }
 
     /// Gives the last number a name.
     pub fn bind_number(&mut self, name: Span, digits: usize) {
-        let value = self.emitter.pop_value();
-        self.emitter
-            .bind(name, Meaning::short_number(value.register, digits))
+        let value = self.pop_value();
+        self.bind(name, Meaning::short_number(value.register, digits))
     }
 
     /// Gives a place a name which has no register.
     pub fn bind_place(&mut self, name: Span, place: Place) {
-        self.emitter.bind(
+        self.bind(
             name,
             Meaning::Place {
                 place,
@@ -143,10 +141,10 @@ impl Compiler<'_> {
 
     /// Gives a place a name, with the register at the end of a walk.
     pub fn bind_walk(&mut self, name: Span, place: &Place, walk: &Walk) {
-        let stamp = self.emitter.code.registers.get(walk.register).stamp;
+        let stamp = self.code.registers.get(walk.register).stamp;
         let mut place = *place;
         place.is_frozen = place.is_frozen || walk.is_frozen;
-        self.emitter.bind(
+        self.bind(
             name,
             Meaning::Place {
                 place,
@@ -159,58 +157,56 @@ impl Compiler<'_> {
     /// What is done if the lookup of a statement fails.
     fn lookup_handler(&mut self, statement: Statement) -> Handler {
         let Some((_, value)) = self.named_value(&statement) else {
-            self.emitter.skip();
+            self.skip();
             return Handler::Nothing;
         };
         let is_lookup = matches!(value.kind, ValueKind::Expression(_));
         if is_lookup && matches!(statement.kind, StatementKind::IfLet { .. }) {
-            return self.emitter.own_handler(statement);
+            return self.own_handler(statement);
         }
-        self.emitter.handler(statement)
+        self.handler(statement)
     }
 
     pub fn begin_lookup(&mut self, statement: Statement) {
         let Some((name, value)) = self.named_value(&statement) else {
-            return self.emitter.skip();
+            return self.skip();
         };
         match value.kind {
             ValueKind::New(written) => self.make_new(statement, name, written),
-            ValueKind::Take(at) => self.emitter.then_place(at, Task::DoTake(statement)),
+            ValueKind::Take(at) => self.then_place(at, Task::DoTake(statement)),
             ValueKind::Expression(at) => self.look_up(statement, value.span, at),
         }
     }
 
     fn look_up(&mut self, statement: Statement, span: Span, at: ExpressionAt) {
-        if self.emitter.is_method(at) {
+        if self.is_method(at) {
             return self.begin_method(at, statement, true);
         }
-        if !self.emitter.is_place(at) {
-            return self.emitter.error(span, ErrorKind::NOT_LOOKUP);
+        if !self.is_place(at) {
+            return self.error(span, ErrorKind::NOT_LOOKUP);
         }
-        self.emitter.then_place(at, Task::DoLookup(statement))
+        self.then_place(at, Task::DoLookup(statement))
     }
 
     fn make_new(&mut self, statement: Statement, name: Span, written: Type) {
-        let value_type = match self.emitter.written_type(written) {
+        let value_type = match self.written_type(written) {
             Ok(found) => found,
             Err(span) => {
-                let word = self.emitter.word(span);
-                let near = self.emitter.near_struct(word);
-                return self
-                    .emitter
-                    .error_about(span, ErrorKind::NO_TYPE, About::near(near));
+                let word = self.word(span);
+                let near = self.near_struct(word);
+                return self.error_about(span, ErrorKind::NO_TYPE, About::near(near));
             }
         };
         let handler = self.lookup_handler(statement);
-        let register = self.emitter.code.take();
-        self.emitter.code.open(
+        let register = self.code.take();
+        self.code.open(
             Operation::New,
             [register.0, 0, 0],
             Operand::Type(value_type),
             register,
             Known::Owner(value_type),
         );
-        self.emitter.code.usage.hold(register);
+        self.code.usage.hold(register);
         self.own(statement, name, register, value_type, handler)
     }
 
@@ -223,66 +219,63 @@ impl Compiler<'_> {
         value_type: TypeAt,
         handler: Handler,
     ) {
-        let names = self.emitter.names.len();
-        self.emitter.bind(
+        let names = self.names.len();
+        self.bind(
             name,
             Meaning::Owner {
                 register,
                 value_type,
             },
         );
-        self.emitter.then(&[Task::Release(register)]);
+        self.then(&[Task::Release(register)]);
         self.then_else(handler, register);
-        self.emitter.then(&[body_task(&statement, names)])
+        self.then(&[body_task(&statement, names)])
     }
 
     /// Ends the innermost part next. If it fails, the handler runs, with the code in a register.
     fn then_else(&mut self, handler: Handler, code: Register) {
-        self.emitter
-            .then(&[Task::Else, Task::Handle(handler, code), Task::EndPart])
+        self.then(&[Task::Else, Task::Handle(handler, code), Task::EndPart])
     }
 
     pub fn take_owned(&mut self, statement: Statement) {
         let Some((name, _)) = self.named_value(&statement) else {
-            return self.emitter.skip();
+            return self.skip();
         };
-        let place = self.emitter.pop_place();
-        let shape = self.emitter.program.types.shape(place.value_type);
+        let place = self.pop_place();
+        let shape = self.program.types.shape(place.value_type);
         let Shape::Of(Container::Own, content) = shape else {
-            return self
-                .emitter
-                .type_error(place.span, ErrorKind::TAKE_OF, place.value_type);
+            return self.type_error(place.span, ErrorKind::TAKE_OF, place.value_type);
         };
-        self.emitter.check_changeable(&place);
+        self.check_changeable(&place);
         let handler = self.lookup_handler(statement);
-        let code = self.emitter.code_register(&place, handler);
-        let register = self.emitter.code.take_held();
-        let walk = self.emitter.walk(&place, false);
-        self.emitter.remove(&place, Removed::Below, statement.span);
-        self.emitter.code.open_change(
+        let code = self.code_register(&place, handler);
+        let register = self.code.take_held();
+        let walk = self.walk(&place, false);
+        self.remove(&place, Removed::Below, statement.span);
+        self.code.open_change(
             Operation::Take,
             [register.0, walk.register.0, 0],
             register,
             Known::Owner(content),
         );
-        self.emitter.then(&[Task::CloseWalk(walk, handler, code)]);
+        self.then(&[Task::CloseWalk(walk, handler, code)]);
         self.own(statement, name, register, content, handler)
     }
 
     /// `if let` at the last place.
     pub fn finish_lookup(&mut self, statement: Statement) {
         let Some((name, _)) = self.named_value(&statement) else {
-            return self.emitter.skip();
+            return self.skip();
         };
-        let mut place = self.emitter.pop_place();
-        let content = self.emitter.program.types.shape(place.value_type).content();
+        let mut place = self.pop_place();
+        let content = self.program.types.shape(place.value_type).content();
         let is_box = content.is_some() && !place.is_length;
-        let is_known = matches!(place.root, Root::Number(_)) || self.emitter.fallible(&place) == 0;
+        let is_known = matches!(place.root, Root::Number(_)) || self.fallible(&place) == 0;
         if is_known && !is_box {
-            return self.emitter.error(place.span, ErrorKind::NEVER_ABSENT);
+            return self.error(place.span, ErrorKind::NEVER_ABSENT);
         }
         let handler = self.lookup_handler(statement);
-        if self.emitter.is_number(&place) {
+        if self.is_number(&place) {
             return self.look_up_number(statement, name, &place, handler);
         }
         if is_box {
@@ -293,15 +286,15 @@ impl Compiler<'_> {
 
     fn look_up_place(&mut self, statement: Statement, name: Span, place: Place, handler: Handler) {
         let mut place = place;
-        let names = self.emitter.names.len();
+        let names = self.names.len();
         self.keep_keys(&mut place, &[body_of(&statement)]);
-        if self.emitter.is_flat {
+        if self.is_flat {
             return self.look_up_flat(statement, name, &place, handler, names);
         }
-        let code = self.emitter.code_register(&place, handler);
-        let walk = self.emitter.walk(&place, false);
+        let code = self.code_register(&place, handler);
+        let walk = self.walk(&place, false);
         self.bind_walk(name, &place, &walk);
-        self.emitter.then(&[
+        self.then(&[
             body_task(&statement, names),
             Task::CloseWalk(walk, handler, code),
         ])
@@ -309,14 +302,12 @@ impl Compiler<'_> {
 
     /// Goes into an `own` or a `shared`.
     fn enter_one(&mut self, place: &mut Place) {
-        match self.emitter.program.types.shape(place.value_type) {
+        match self.program.types.shape(place.value_type) {
             Shape::Of(Container::Own, to) => {
-                self.emitter
-                    .add_way(place, WayKind::Content { is_shared: false }, to)
+                self.add_way(place, WayKind::Content { is_shared: false }, to)
             }
             Shape::Of(Container::Shared, to) => {
-                self.emitter
-                    .add_way(place, WayKind::Content { is_shared: true }, to)
+                self.add_way(place, WayKind::Content { is_shared: true }, to)
             }
             _ => {}
         }
@@ -330,23 +321,23 @@ impl Compiler<'_> {
         handler: Handler,
     ) {
         let digits = self.most_digits(place);
-        if self.emitter.openers(place) == 1 && !self.emitter.is_flat {
+        if self.openers(place) == 1 && !self.is_flat {
             return self.look_up_open(statement, name, place, handler, digits);
         }
-        let names = self.emitter.names.len();
-        let register = self.emitter.code.literal_held(0);
-        let code = self.emitter.code.literal_held(0);
-        let walk = self.emitter.walk(place, false);
-        self.emitter.read_number(register, walk.register, place);
-        self.emitter.close_noting(&walk, code);
-        self.emitter.then(&[Task::Release(register)]);
+        let names = self.names.len();
+        let register = self.code.literal_held(0);
+        let code = self.code.literal_held(0);
+        let walk = self.walk(place, false);
+        self.read_number(register, walk.register, place);
+        self.close_noting(&walk, code);
+        self.then(&[Task::Release(register)]);
         let bind = Task::BindSet(name, register, digits);
         self.branch_on(code, handler, bind, body_task(&statement, names))
     }
 
     /// The most digits of the number at a place.
     fn most_digits(&self, place: &Place) -> usize {
-        match self.emitter.last_way(place) {
+        match self.last_way(place) {
             _ if place.is_length => 10,
             Some(WayKind::Byte(_)) => 3,
             _ => MOST_DIGITS,
@@ -362,13 +353,12 @@ impl Compiler<'_> {
         handler: Handler,
         digits: usize,
     ) {
-        let names = self.emitter.names.len();
-        let walk = self.emitter.walk(place, false);
+        let names = self.names.len();
+        let walk = self.walk(place, false);
         let register = self.own_register(&walk);
-        self.emitter.read_number(register, walk.register, place);
-        self.emitter
-            .bind(name, Meaning::short_number(register, digits));
-        self.emitter.then(&[
+        self.read_number(register, walk.register, place);
+        self.bind(name, Meaning::short_number(register, digits));
+        self.then(&[
             body_task(&statement, names),
             Task::CloseWalk(walk, handler, None),
         ])
@@ -379,13 +369,13 @@ impl Compiler<'_> {
         if walk.is_own() {
             return walk.register;
         }
-        self.emitter.code.take()
+        self.code.take()
     }
 
     /// Runs the handler if a register isn't 0. Otherwise releases it, binds a name, and does the body.
     fn branch_on(&mut self, code: Register, handler: Handler, bind: Task, body: Task) {
-        self.emitter.code.open_if(code);
-        self.emitter.then(&[
+        self.code.open_if(code);
+        self.then(&[
             Task::Handle(handler, code),
             Task::Else,
             Task::Release(code),
@@ -404,9 +394,9 @@ impl Compiler<'_> {
         handler: Handler,
         names: usize,
     ) {
-        let code = self.emitter.code.literal_held(0);
-        let walk = self.emitter.walk(place, false);
-        self.emitter.close_noting(&walk, code);
+        let code = self.code.literal_held(0);
+        let walk = self.walk(place, false);
+        self.close_noting(&walk, code);
         let bind = Task::BindPlace(name, *place);
         self.branch_on(code, handler, bind, body_task(&statement, names))
     }
@@ -414,26 +404,24 @@ impl Compiler<'_> {
     // use
 
     pub fn begin_use(&mut self, statement: Statement, held: Range) {
-        let tree = self.emitter.tree;
+        let tree = self.tree;
         let places = tree.held(held);
         let Some(first) = places.first() else {
             return;
         };
-        let handler = self.emitter.handler(statement);
-        if self.emitter.is_flat {
-            let code = self.emitter.code.literal_held(0);
+        let handler = self.handler(statement);
+        if self.is_flat {
+            let code = self.code.literal_held(0);
             let hold = Task::HoldFlat(statement, 0, code);
-            return self.emitter.then_place(first.place, hold);
+            return self.then_place(first.place, hold);
         }
         if handler.is_nothing() || places.len() < 2 {
             let hold = Task::Hold(statement, 0, None);
-            return self.emitter.then_place(first.place, hold);
+            return self.then_place(first.place, hold);
         }
-        let code = self.emitter.code.literal_held(0);
-        self.emitter
-            .then(&[Task::HandleIf(code, handler), Task::Release(code)]);
-        self.emitter
-            .then_place(first.place, Task::Hold(statement, 0, Some(code)))
+        let code = self.code.literal_held(0);
+        self.then(&[Task::HandleIf(code, handler), Task::Release(code)]);
+        self.then_place(first.place, Task::Hold(statement, 0, Some(code)))
     }
 
     /// The place of a `use` with this number, and the number of the places.
@@ -441,22 +429,22 @@ impl Compiler<'_> {
         let StatementKind::Use(held) = statement.kind else {
             return None;
         };
-        let places = self.emitter.tree.held(held);
+        let places = self.tree.held(held);
         Some((places.get(number).copied()?, places.len()))
     }
 
     /// The name of a place that a `use` holds.
     fn held_name(&mut self, held: &Held, place: &Place) -> Span {
-        let span = self.emitter.span_of(held.place);
+        let span = self.span_of(held.place);
         if matches!(place.root, Root::Number(_)) {
-            self.emitter.error(span, ErrorKind::NEEDLESS_USE);
+            self.error(span, ErrorKind::NEEDLESS_USE);
             return NOWHERE;
         }
-        match (held.name, self.emitter.steps_of(held.place, 0)) {
+        match (held.name, self.steps_of(held.place, 0)) {
             (Some(name), _) => name,
             (None, Some(steps)) if steps.is_empty() => span,
             (None, _) => {
-                self.emitter.error(span, ErrorKind::UNNAMED_USE);
+                self.error(span, ErrorKind::UNNAMED_USE);
                 NOWHERE
             }
         }
@@ -485,18 +473,18 @@ impl Compiler<'_> {
 
     /// Keeps the last place for a `use`, and continues with the next one.
     pub fn hold(&mut self, statement: Statement, number: usize, code: Option<Register>) {
-        let mut place = self.emitter.pop_place();
+        let mut place = self.pop_place();
         let Some((held, _)) = self.held_place(&statement, number) else {
             return;
         };
         let name = self.held_name(&held, &place);
-        let names = self.emitter.names.len();
+        let names = self.names.len();
         self.keep_keys(&mut place, &[body_of(&statement)]);
         let close = self.hold_place(statement, name, &place, code);
-        self.emitter.then(&[Task::EndScope(names), close]);
-        let inner = self.emitter.names.len();
+        self.then(&[Task::EndScope(names), close]);
+        let inner = self.names.len();
         let [first, second] = self.after_held(&statement, number, code, inner);
-        self.emitter.then(&[first, second])
+        self.then(&[first, second])
     }
 
     /// Finds or makes a place, and binds it. Returns the task that ends its parts.
@@ -509,12 +497,12 @@ impl Compiler<'_> {
     ) -> Task {
         let handler = match code {
             Some(_) => Handler::Nothing,
-            None => self.emitter.handler(statement),
+            None => self.handler(statement),
         };
-        let own_code = self.emitter.code_register(place, handler);
-        let walk = self.emitter.walk(place, true);
+        let own_code = self.code_register(place, handler);
+        let walk = self.walk(place, true);
         self.bind_walk(name, place, &walk);
-        self.emitter.use_last_name();
+        self.use_last_name();
         match code {
             Some(code) => Task::CloseNoting(walk, code),
             None => Task::CloseWalk(walk, handler, own_code),
@@ -523,18 +511,18 @@ impl Compiler<'_> {
 
     /// Finds or makes the last place, and binds it without holding it.
     pub fn hold_flat(&mut self, statement: Statement, number: usize, code: Register) {
-        let mut place = self.emitter.pop_place();
+        let mut place = self.pop_place();
         let Some((held, _)) = self.held_place(&statement, number) else {
             return;
         };
         let name = self.held_name(&held, &place);
-        let names = self.emitter.names.len();
+        let names = self.names.len();
         self.keep_keys(&mut place, &[body_of(&statement)]);
-        let walk = self.emitter.walk(&place, true);
-        self.emitter.close_noting(&walk, code);
+        let walk = self.walk(&place, true);
+        self.close_noting(&walk, code);
         self.bind_place(name, place);
-        self.emitter.use_last_name();
-        self.emitter.then(&[Task::EndScope(names)]);
+        self.use_last_name();
+        self.then(&[Task::EndScope(names)]);
         self.after_flat(statement, number, code)
     }
 
@@ -544,7 +532,7 @@ impl Compiler<'_> {
         match self.held_place(&statement, next) {
             Some((held, _)) => {
                 let hold = Task::HoldFlat(statement, next, code);
-                self.emitter.then_place(held.place, hold)
+                self.then_place(held.place, hold)
             }
             None => self.do_flat(statement, code),
         }
@@ -552,10 +540,10 @@ impl Compiler<'_> {
 
     /// The body of a `use` whose places were found or made, unless a register has a code.
     fn do_flat(&mut self, statement: Statement, code: Register) {
-        let handler = self.emitter.handler(statement);
-        self.emitter.code.open_if(code);
-        let inner = self.emitter.names.len();
-        self.emitter.then(&[
+        let handler = self.handler(statement);
+        self.code.open_if(code);
+        let inner = self.names.len();
+        self.then(&[
             Task::Handle(handler, code),
             Task::Else,
             Task::Release(code),
@@ -569,18 +557,18 @@ impl Compiler<'_> {
     /// `if let` with a pushed item, at the last place. Its value was worked out, if it has one.
     pub fn push_named(&mut self, statement: Statement, has_value: bool) {
         let Some((name, value)) = self.named_value(&statement) else {
-            return self.emitter.skip();
+            return self.skip();
         };
-        let mut place = self.emitter.pop_place();
+        let mut place = self.pop_place();
         let is_back = self.method_word(value) == b"push".as_slice();
-        self.emitter.enter_content(&mut place);
+        self.enter_content(&mut place);
         let item = self.check_method(value, &place, has_value);
         if place.value_type == TypeAt::TEXT {
-            return self.emitter.error(value.span, ErrorKind::PUSHED_BYTE_NAME);
+            return self.error(value.span, ErrorKind::PUSHED_BYTE_NAME);
         }
-        self.emitter.check_changeable(&place);
+        self.check_changeable(&place);
         if !is_back {
-            self.emitter.remove(&place, Removed::Below, statement.span);
+            self.remove(&place, Removed::Below, statement.span);
         }
         let push = Push {
             name,
@@ -589,7 +577,7 @@ impl Compiler<'_> {
             pushed: self.hold_pushed(has_value),
         };
         let handler = self.lookup_handler(statement);
-        let names = self.emitter.names.len();
+        let names = self.names.len();
         self.keep_keys(&mut place, &[body_of(&statement)]);
         self.bind_pushed(statement, &push, &place, handler, names)
     }
@@ -603,20 +591,20 @@ impl Compiler<'_> {
         handler: Handler,
         names: usize,
     ) {
-        let code = self.emitter.code_register(place, handler);
-        let index = self.emitter.code.literal_held(0);
-        let walk = self.emitter.walk(place, true);
+        let code = self.code_register(place, handler);
+        let index = self.code.literal_held(0);
+        let walk = self.walk(place, true);
         let register = self.push_at(push, &walk, index);
         self.bind_item(push.name, register, index, place, push.item);
         let release = match push.pushed {
             Some(pushed) => Task::Release(pushed),
             None => Task::At(statement.span),
         };
-        self.emitter.then(&[
+        self.then(&[
             Task::Release(register),
             Task::CloseWalk(walk, handler, code),
         ]);
-        self.emitter.then(&[
+        self.then(&[
             body_task(&statement, names),
             Task::Else,
             Task::Release(index),
@@ -630,13 +618,13 @@ impl Compiler<'_> {
     /// other register is set to its index.
     fn push_at(&mut self, push: &Push, walk: &Walk, index: Register) -> Register {
         if push.is_back {
-            self.emitter.code.read(Operation::Len, index, walk.register);
+            self.code.read(Operation::Len, index, walk.register);
         }
         let register = self.own_register(walk);
-        self.emitter.code.usage.hold(register);
+        self.code.usage.hold(register);
         self.open_push(push.is_back, register, walk, push.item);
         if let Some(pushed) = push.pushed {
-            self.emitter.code.act(Operation::Store, register, pushed.0);
+            self.code.act(Operation::Store, register, pushed.0);
         }
         register
     }
@@ -646,8 +634,8 @@ impl Compiler<'_> {
         if !has_value {
             return None;
         }
-        let register = self.emitter.pop_value().register;
-        self.emitter.code.usage.hold(register);
+        let register = self.pop_value().register;
+        self.code.usage.hold(register);
         Some(register)
     }
 
@@ -659,13 +647,12 @@ impl Compiler<'_> {
             Operation::PushFront
         };
         let known = Known::Reference {
-            class: self.emitter.code.class_of(walk.register),
+            class: self.code.class_of(walk.register),
             value_type: item,
             is_frozen: false,
         };
         let registers = [register.0, walk.register.0, 0];
-        self.emitter
-            .code
+        self.code
             .open_change(operation, registers, register, known)
     }
 
@@ -679,13 +666,13 @@ impl Compiler<'_> {
         item: TypeAt,
     ) {
         if item == TypeAt::INT {
-            self.emitter.code.read(Operation::Load, register, register);
-            return self.emitter.bind(name, Meaning::number(register));
+            self.code.read(Operation::Load, register, register);
+            return self.bind(name, Meaning::number(register));
         }
         let kind = WayKind::Item(Key::Register(index));
-        let place = self.emitter.longer_place(place, kind, item);
-        let stamp = self.emitter.code.registers.get(register).stamp;
-        self.emitter.bind(
+        let place = self.longer_place(place, kind, item);
+        let stamp = self.code.registers.get(register).stamp;
+        self.bind(
             name,
             Meaning::Place {
                 place,
@@ -698,18 +685,16 @@ impl Compiler<'_> {
     /// `if let` with a popped item, at the last place.
     pub fn pop_named(&mut self, statement: Statement) {
         let Some((name, value)) = self.named_value(&statement) else {
-            return self.emitter.skip();
+            return self.skip();
         };
-        let mut place = self.emitter.pop_place();
+        let mut place = self.pop_place();
         let is_back = self.method_word(value) == b"pop".as_slice();
-        self.emitter.enter_content(&mut place);
+        self.enter_content(&mut place);
         let item = self.check_method(value, &place, false);
         if item != TypeAt::INT {
-            return self
-                .emitter
-                .type_error(value.span, ErrorKind::ITEM_GOES, item);
+            return self.type_error(value.span, ErrorKind::ITEM_GOES, item);
         }
-        self.emitter.check_changeable(&place);
+        self.check_changeable(&place);
         let handler = self.lookup_handler(statement);
         self.bind_popped(statement, name, is_back, &place, handler)
     }
@@ -723,14 +708,14 @@ impl Compiler<'_> {
         place: &Place,
         handler: Handler,
     ) {
-        let register = self.emitter.code.literal_held(0);
-        let code = self.emitter.code.literal_held(NO_ITEM);
-        self.emitter.remove(place, Removed::Below, statement.span);
-        let walk = self.emitter.walk(place, false);
+        let register = self.code.literal_held(0);
+        let code = self.code.literal_held(NO_ITEM);
+        self.remove(place, Removed::Below, statement.span);
+        let walk = self.walk(place, false);
         self.take_item(is_back, register, code, &walk, place.value_type);
-        self.emitter.close_noting(&walk, code);
-        let names = self.emitter.names.len();
-        self.emitter.then(&[Task::Release(register)]);
+        self.close_noting(&walk, code);
+        let names = self.names.len();
+        self.then(&[Task::Release(register)]);
         let bind = Task::BindSet(name, register, MOST_DIGITS);
         self.branch_on(code, handler, bind, body_task(&statement, names))
     }
@@ -745,24 +730,23 @@ impl Compiler<'_> {
         value_type: TypeAt,
     ) {
         let from = walk.register;
-        let index = self.emitter.code.literal_held(0);
+        let index = self.code.literal_held(0);
         if is_back {
-            self.emitter.code.read(Operation::Len, index, from);
-            self.emitter.code.add(index, -1);
+            self.code.read(Operation::Len, index, from);
+            self.code.add(index, -1);
         }
         self.load_item(register, from, index, value_type);
-        self.emitter.code.number(code, 0);
-        self.emitter.code.close();
+        self.code.number(code, 0);
+        self.code.close();
         let operation = if is_back {
             Operation::PopBack
         } else {
             Operation::PopFront
         };
-        self.emitter
-            .code
+        self.code
             .open_change(operation, [index.0, from.0, 0], index, Known::Number);
-        self.emitter.code.close();
-        self.emitter.code.usage.release(index);
+        self.code.close();
+        self.code.usage.release(index);
     }
 
     /// Opens the part that has an item, and reads its number.
@@ -772,17 +756,16 @@ impl Compiler<'_> {
             Known::Number
         } else {
             Known::Reference {
-                class: self.emitter.code.class_of(from),
+                class: self.code.class_of(from),
                 value_type: TypeAt::INT,
                 is_frozen: false,
             }
         };
         let registers = [to.0, from.0, index.0];
-        self.emitter
-            .code
+        self.code
             .open(Operation::At, registers, Operand::Plain(0), to, known);
         if !is_text {
-            self.emitter.code.read(Operation::Load, to, to);
+            self.code.read(Operation::Load, to, to);
         }
     }
 
@@ -790,26 +773,26 @@ impl Compiler<'_> {
         match value.kind {
             ValueKind::Expression(at) => self.method_item(at, place, has_value),
             _ => {
-                self.emitter.skip();
+                self.skip();
                 TypeAt::INT
             }
         }
     }
 }
 
-impl<'t> Compiler<'t> {
+impl<'t> Emitter<'t> {
     /// The name of the method in a value.
     fn method_word(&mut self, value: Value) -> &'t [u8] {
         match value.kind {
-            ValueKind::Expression(at) => match self.emitter.last_step(at) {
-                Some(step) => self.emitter.word(step.span),
+            ValueKind::Expression(at) => match self.last_step(at) {
+                Some(step) => self.word(step.span),
                 None => {
-                    self.emitter.skip();
+                    self.skip();
                     b""
                 }
             },
             _ => {
-                self.emitter.skip();
+                self.skip();
                 b""
             }
         }

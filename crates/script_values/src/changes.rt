@@ -1,43 +1,44 @@
 //! Statements that change places.
 
-use crate::compiler::Compiler;
+use crate::emitter::Emitter;
+use crate::task::{Handler, Task, Value, Walk};
+use crate::walks::Removed;
 use client_code::Operation;
 use script_code::{
     About, Error, ErrorKind, Known, Meaning, Operand, Place, Register, Root, Shape, TypeAt, WayKind,
 };
 use script_syntax::{
-    BinaryOperator, Container, ExpressionAt, ExpressionKind, Item, Range, SetOperator, Span,
+    BinaryOperator, Container, ExpressionAt, Item, Range, SetOperator, Span,
     Statement, StatementKind, StepKind, ValueKind,
 };
-use script_values::{Handler, Removed, Task, Value, Walk};
 
-impl Compiler<'_> {
+impl Emitter<'_> {
     pub fn begin_set(&mut self, statement: Statement) {
         let StatementKind::Set { place, items, .. } = statement.kind else {
             return;
         };
-        if let Some(name) = self.emitter.plain_name(place) {
+        if let Some(name) = self.plain_name(place) {
             if self.is_variable(place) {
                 return self.begin_assign(statement, name, items);
             }
         }
-        if self.emitter.is_text(place) {
-            return self.emitter.then_place(place, Task::DoText(statement));
+        if self.is_text(place) {
+            return self.then_place(place, Task::DoText(statement));
         }
         if self.is_own(place) {
             return self.begin_put(statement, place, items);
         }
-        self.emitter.then(&[Task::DoSet(statement)]);
+        self.then(&[Task::DoSet(statement)]);
         if let Ok(value) = self.only_value(&statement, items) {
-            self.emitter.then(&[Task::Evaluate(value, None)]);
+            self.then(&[Task::Evaluate(value, None)]);
         }
-        self.emitter.then(&[Task::Place(place, 0)])
+        self.then(&[Task::Place(place, 0)])
     }
 
-    fn is_own(&self, at: ExpressionAt) -> bool {
-        match self.emitter.type_of(at) {
+    pub fn is_own(&self, at: ExpressionAt) -> bool {
+        match self.type_of(at) {
             Some(found) => matches!(
-                self.emitter.program.types.shape(found),
+                self.program.types.shape(found),
                 Shape::Of(Container::Own, _)
             ),
             None => false,
@@ -46,7 +47,7 @@ impl Compiler<'_> {
 
     /// The one number of an assignment.
     fn only_value(&self, statement: &Statement, items: Range) -> Result<ExpressionAt, Error> {
-        let (span, kind) = match self.emitter.tree.items(items) {
+        let (span, kind) = match self.tree.items(items) {
             [item] => match item.value.kind {
                 ValueKind::Expression(at) if item.width.is_none() => return Ok(at),
                 ValueKind::Expression(_) => (item.value.span, ErrorKind::MISPLACED_WIDTH),
@@ -68,8 +69,8 @@ impl Compiler<'_> {
         else {
             return;
         };
-        let Some(found) = self.emitter.names.get(name) else {
-            return self.emitter.skip();
+        let Some(found) = self.names.get(name) else {
+            return self.skip();
         };
         let Meaning::Number {
             register,
@@ -77,30 +78,28 @@ impl Compiler<'_> {
             ..
         } = found.meaning
         else {
-            return self.emitter.skip();
+            return self.skip();
         };
-        let span = self.emitter.span_of(place);
+        let span = self.span_of(place);
         if is_fixed {
-            return self.emitter.error(span, ErrorKind::LOOP_NAME);
+            return self.error(span, ErrorKind::LOOP_NAME);
         }
         if self.is_object(items) {
             let about = About::name(span);
-            return self
-                .emitter
-                .error_about(operator_span, ErrorKind::IS_NUMBER, about);
+            return self.error_about(operator_span, ErrorKind::IS_NUMBER, about);
         }
         let value = match self.only_value(&statement, items) {
             Ok(value) => value,
-            Err(error) => return self.emitter.fail(error),
+            Err(error) => return self.fail(error),
         };
-        self.emitter.names.use_name(name);
-        self.emitter.names.lengthen(name);
+        self.names.use_name(name);
+        self.names.lengthen(name);
         self.assign(register, binary_of(operator), operator_span, place, value)
     }
 
     /// Whether an assignment's only item is `new` or `take`.
     fn is_object(&self, items: Range) -> bool {
-        match self.emitter.tree.items(items) {
+        match self.tree.items(items) {
             [item] => !matches!(item.value.kind, ValueKind::Expression(_)),
             _ => false,
         }
@@ -117,7 +116,7 @@ impl Compiler<'_> {
     ) {
         match operator {
             Some(operator) => self.change(register, operator, operator_span, place, value),
-            None => self.emitter.then(&[
+            None => self.then(&[
                 Task::Evaluate(value, Some(register)),
                 Task::MoveTo(register),
             ]),
@@ -134,12 +133,10 @@ impl Compiler<'_> {
         value: ExpressionAt,
     ) {
         if matches!(operator, BinaryOperator::Divide | BinaryOperator::Remainder) {
-            self.emitter.then(&[Task::MoveTo(register)]);
-            return self
-                .emitter
-                .begin_division(operator_span, operator, place, value);
+            self.then(&[Task::MoveTo(register)]);
+            return self.begin_division(operator_span, operator, place, value);
         }
-        self.emitter.then(&[
+        self.then(&[
             Task::Push(Value {
                 register,
                 is_own: false,
@@ -152,7 +149,7 @@ impl Compiler<'_> {
 
     /// Sets the number at the last place to the last number.
     pub fn set_number(&mut self, statement: Statement) {
-        let place = self.emitter.pop_place();
+        let place = self.pop_place();
         self.check_settable(&statement, &place);
         let StatementKind::Set {
             operator,
@@ -163,20 +160,20 @@ impl Compiler<'_> {
             return;
         };
         if let Err(error) = self.only_value(&statement, items) {
-            return self.emitter.fail(error);
+            return self.fail(error);
         }
         if matches!(operator, SetOperator::Divide | SetOperator::Remainder) {
             let span = operator_span(&statement);
-            return self.emitter.error(span, ErrorKind::ONLY_NAMED_NUMBERS);
+            return self.error(span, ErrorKind::ONLY_NAMED_NUMBERS);
         }
-        let value = self.emitter.pop_value();
-        self.emitter.code.usage.hold(value.register);
+        let value = self.pop_value();
+        self.code.usage.hold(value.register);
         let handler = self.place_handler(statement, &place);
-        let code = self.emitter.code_register(&place, handler);
-        let walk = self.emitter.walk(&place, true);
+        let code = self.code_register(&place, handler);
+        let walk = self.walk(&place, true);
         self.store(operator, walk.register, value.register);
-        self.emitter.then(&[Task::Release(value.register)]);
-        self.emitter.close_handling(&walk, handler, code)
+        self.then(&[Task::Release(value.register)]);
+        self.close_handling(&walk, handler, code)
     }
 
     /// Sets the number that a register refers to, or changes it by a value.
@@ -185,39 +182,39 @@ impl Compiler<'_> {
             SetOperator::Add => Operation::Add,
             SetOperator::Subtract => Operation::Sub,
             SetOperator::Multiply => Operation::Mul,
-            _ => return self.emitter.code.act(Operation::Store, target, value.0),
+            _ => return self.code.act(Operation::Store, target, value.0),
         };
-        let sum = self.emitter.code.take();
-        self.emitter.code.read(Operation::Load, sum, target);
-        self.emitter.code.compute(operation, sum, sum, value);
-        self.emitter.code.act(Operation::Store, target, sum.0);
-        self.emitter.code.usage.free(sum);
+        let sum = self.code.take();
+        self.code.read(Operation::Load, sum, target);
+        self.code.compute(operation, sum, sum, value);
+        self.code.act(Operation::Store, target, sum.0);
+        self.code.usage.free(sum);
     }
 
     /// What is done if the walk to a place fails. Nothing if it can't.
     fn place_handler(&mut self, statement: Statement, place: &Place) -> Handler {
-        if self.emitter.fallible(place) == 0 {
+        if self.fallible(place) == 0 {
             return Handler::Nothing;
         }
-        self.emitter.handler(statement)
+        self.handler(statement)
     }
 
     fn check_settable(&mut self, statement: &Statement, place: &Place) {
         let span = operator_span(statement);
         if place.is_length {
-            return self.emitter.error(place.span, ErrorKind::LENGTH_SET);
+            return self.error(place.span, ErrorKind::LENGTH_SET);
         }
         let value_type = place.value_type;
         if value_type != TypeAt::INT {
-            let kind = unset_kind(self.emitter.program.types.shape(value_type));
-            return self.emitter.type_error(span, kind, value_type);
+            let kind = unset_kind(self.program.types.shape(value_type));
+            return self.type_error(span, kind, value_type);
         }
-        match self.emitter.last_way(place) {
+        match self.last_way(place) {
             Some(WayKind::FirstKey | WayKind::NextKey(_)) => {
-                self.emitter.error(place.span, ErrorKind::KEY_SET)
+                self.error(place.span, ErrorKind::KEY_SET)
             }
-            Some(WayKind::Byte(_)) => self.emitter.error(place.span, ErrorKind::BYTE_SET),
-            _ => self.emitter.check_changeable(place),
+            Some(WayKind::Byte(_)) => self.error(place.span, ErrorKind::BYTE_SET),
+            _ => self.check_changeable(place),
         }
     }
 
@@ -227,32 +224,29 @@ impl Compiler<'_> {
         let StatementKind::Set { operator, .. } = statement.kind else {
             return;
         };
-        let tree = self.emitter.tree;
+        let tree = self.tree;
         match tree.items(items) {
             [item] if operator == SetOperator::Set => { self.begin_move(statement, place, item) }
-            _ => self
-                .emitter
-                .error(operator_span(&statement), ErrorKind::ONLY_NUMBERS),
+            _ => self.error(operator_span(&statement), ErrorKind::ONLY_NUMBERS),
         }
     }
 
     fn begin_move(&mut self, statement: Statement, place: ExpressionAt, item: &Item) {
         let owner = match item.value.kind {
-            ValueKind::Expression(at) => self.emitter.plain_name(at),
+            ValueKind::Expression(at) => self.plain_name(at),
             _ => None,
         };
         match owner {
             Some(owner) if self.owner(owner).is_some() => {
-                self.emitter
-                    .then_place(place, Task::DoPut(statement, owner))
+                self.then_place(place, Task::DoPut(statement, owner))
             }
-            _ => self.emitter.error(item.value.span, ErrorKind::OWNER_WANTED),
+            _ => self.error(item.value.span, ErrorKind::OWNER_WANTED),
         }
     }
 
     /// The register and the type of the object that a name owns or owned.
     fn owner(&self, name: usize) -> Option<(Register, TypeAt)> {
-        match self.emitter.names.get(name)?.meaning {
+        match self.names.get(name)?.meaning {
             Meaning::Owner {
                 register,
                 value_type,
@@ -271,18 +265,17 @@ impl Compiler<'_> {
         in_itself: ErrorKind,
     ) -> Register {
         let Some((register, found)) = self.owner(name) else {
-            self.emitter.error(span, ErrorKind::OWNER_WANTED);
+            self.error(span, ErrorKind::OWNER_WANTED);
             return Register(0);
         };
         if found != wanted {
-            self.emitter
-                .error_about(span, ErrorKind::MISMATCH, About::of_types(found, wanted));
+            self.error_about(span, ErrorKind::MISMATCH, About::of_types(found, wanted));
         } else if place.root == Root::Owner(name) {
-            self.emitter.error(span, in_itself);
-        } else if !self.emitter.code.owns(register) {
+            self.error(span, in_itself);
+        } else if !self.code.owns(register) {
             self.moved_error(span, name);
         } else {
-            self.emitter.names.use_name(name);
+            self.names.use_name(name);
             return register;
         }
         Register(0)
@@ -290,34 +283,32 @@ impl Compiler<'_> {
 
     /// Notes that the object which a name owned was moved or dropped.
     fn moved_error(&mut self, span: Span, name: usize) {
-        let line = match self.emitter.names.get(name) {
+        let line = match self.names.get(name) {
             Some(name) => name.span.line,
             None => span.line,
         };
-        self.emitter
-            .error_about(span, ErrorKind::MOVED, About::number(line))
+        self.error_about(span, ErrorKind::MOVED, About::number(line))
     }
 
     /// Moves an owned object into the last place.
     pub fn put_owned(&mut self, statement: Statement, owner: usize) {
-        let place = self.emitter.pop_place();
-        let Shape::Of(Container::Own, content) = self.emitter.program.types.shape(place.value_type)
+        let place = self.pop_place();
+        let Shape::Of(Container::Own, content) = self.program.types.shape(place.value_type)
         else {
-            return self.emitter.skip();
+            return self.skip();
         };
         let span = self.item_span(&statement);
         let register = self.check_owner(span, owner, content, &place, ErrorKind::OWNS_ITSELF);
-        self.emitter.check_changeable(&place);
-        self.emitter.remove(&place, Removed::Below, statement.span);
+        self.check_changeable(&place);
+        self.remove(&place, Removed::Below, statement.span);
         let handler = self.place_handler(statement, &place);
-        let code = self.emitter.code_register(&place, handler);
-        let walk = self.emitter.walk(&place, true);
-        self.emitter
-            .code
+        let code = self.code_register(&place, handler);
+        let walk = self.walk(&place, true);
+        self.code
             .act(Operation::Put, walk.register, register.0);
-        self.emitter.code.end_others(walk.register);
-        self.emitter.code.forget_owner(register);
-        self.emitter.close_handling(&walk, handler, code)
+        self.code.end_others(walk.register);
+        self.code.forget_owner(register);
+        self.close_handling(&walk, handler, code)
     }
 
     /// The span of the first item of an assignment.
@@ -325,7 +316,7 @@ impl Compiler<'_> {
         let StatementKind::Set { items, .. } = statement.kind else {
             return statement.span;
         };
-        match self.emitter.tree.items(items).first() {
+        match self.tree.items(items).first() {
             Some(item) => item.value.span,
             None => statement.span,
         }
@@ -335,7 +326,7 @@ impl Compiler<'_> {
         let StatementKind::Freeze { place, .. } = statement.kind else {
             return;
         };
-        self.emitter.then_place(place, Task::DoFreeze(statement))
+        self.then_place(place, Task::DoFreeze(statement))
     }
 
     /// Moves an owned object into the last place and freezes it.
@@ -343,30 +334,28 @@ impl Compiler<'_> {
         let StatementKind::Freeze { name, .. } = statement.kind else {
             return;
         };
-        let place = self.emitter.pop_place();
-        let shape = self.emitter.program.types.shape(place.value_type);
+        let place = self.pop_place();
+        let shape = self.program.types.shape(place.value_type);
         let Shape::Of(Container::Shared, content) = shape else {
-            return self
-                .emitter
-                .type_error(place.span, ErrorKind::FREEZE_OF, place.value_type);
+            return self.type_error(place.span, ErrorKind::FREEZE_OF, place.value_type);
         };
         let Some(owner) = self.owner_named(name) else {
-            return self.emitter.error(name, ErrorKind::NEW_WANTED);
+            return self.error(name, ErrorKind::NEW_WANTED);
         };
         let register = self.check_owner(name, owner, content, &place, ErrorKind::SHARES_ITSELF);
-        self.emitter.check_changeable(&place);
-        let handler = self.emitter.handler(statement);
-        self.emitter.remove(&place, Removed::Below, statement.span);
-        let code = self.emitter.code.literal_held(0);
-        let walk = self.emitter.walk(&place, true);
+        self.check_changeable(&place);
+        let handler = self.handler(statement);
+        self.remove(&place, Removed::Below, statement.span);
+        let code = self.code.literal_held(0);
+        let walk = self.walk(&place, true);
         self.emit_freeze(walk.register, register, code);
-        self.emitter.close_coded(&walk, handler, code)
+        self.close_coded(&walk, handler, code)
     }
 
     /// The local name with this spelling, if it owns or owned an object.
     fn owner_named(&self, span: Span) -> Option<usize> {
-        let word = self.emitter.word(span);
-        let at = self.emitter.names.find(self.emitter.tree, word)?;
+        let word = self.word(span);
+        let at = self.names.find(self.tree, word)?;
         match self.owner(at) {
             Some(_) => Some(at),
             None => None,
@@ -375,20 +364,20 @@ impl Compiler<'_> {
 
     /// Freezes an object. If that fails, the object is dropped, and a register is set to the code.
     fn emit_freeze(&mut self, place: Register, owner: Register, code: Register) {
-        let failed = self.emitter.code.take_held();
-        self.emitter.code.open_freeze(failed, place, owner);
-        self.emitter.code.begin_else();
-        self.emitter.code.copy(code, failed);
-        self.emitter.code.drop_owner(owner);
-        self.emitter.code.end_part();
-        self.emitter.code.usage.release(failed);
+        let failed = self.code.take_held();
+        self.code.open_freeze(failed, place, owner);
+        self.code.begin_else();
+        self.code.copy(code, failed);
+        self.code.drop_owner(owner);
+        self.code.end_part();
+        self.code.usage.release(failed);
     }
 
     pub fn begin_share(&mut self, statement: Statement) {
         let StatementKind::Share { place, source } = statement.kind else {
             return;
         };
-        self.emitter.then(&[
+        self.then(&[
             Task::Place(place, 0),
             Task::Place(source, 0),
             Task::DoShare(statement),
@@ -397,97 +386,72 @@ impl Compiler<'_> {
 
     /// Makes the last place but one share what the last place shares.
     pub fn share(&mut self, statement: Statement) {
-        let source = self.emitter.pop_place();
-        let place = self.emitter.pop_place();
+        let source = self.pop_place();
+        let place = self.pop_place();
         if !self.is_shared(&place) {
-            return self
-                .emitter
-                .type_error(place.span, ErrorKind::SHARE_OF, place.value_type);
+            return self.type_error(place.span, ErrorKind::SHARE_OF, place.value_type);
         }
         if !self.is_shared(&source) {
-            return self
-                .emitter
-                .type_error(source.span, ErrorKind::SHARE_OF, source.value_type);
+            return self.type_error(source.span, ErrorKind::SHARE_OF, source.value_type);
         }
         if place.value_type != source.value_type {
             let about = About::of_types(source.value_type, place.value_type);
-            return self
-                .emitter
-                .error_about(source.span, ErrorKind::MISMATCH, about);
+            return self.error_about(source.span, ErrorKind::MISMATCH, about);
         }
-        self.emitter.check_changeable(&place);
-        self.emitter.remove(&place, Removed::Below, statement.span);
-        let handler = if self.emitter.fallible(&source) == 0 {
+        self.check_changeable(&place);
+        self.remove(&place, Removed::Below, statement.span);
+        let handler = if self.fallible(&source) == 0 {
             self.place_handler(statement, &place)
         } else {
-            self.emitter.handler(statement)
+            self.handler(statement)
         };
         self.emit_share(&place, &source, handler)
     }
 
     fn is_shared(&self, place: &Place) -> bool {
         matches!(
-            self.emitter.program.types.shape(place.value_type),
+            self.program.types.shape(place.value_type),
             Shape::Of(Container::Shared, _)
         )
     }
 
     fn emit_share(&mut self, place: &Place, source: &Place, handler: Handler) {
-        let code = self.emitter.code.literal_held(0);
-        let walk = self.emitter.walk(place, true);
-        self.emitter.code.usage.hold(walk.register);
-        let other = self.emitter.walk(source, false);
-        self.emitter
-            .code
+        let code = self.code.literal_held(0);
+        let walk = self.walk(place, true);
+        self.code.usage.hold(walk.register);
+        let other = self.walk(source, false);
+        self.code
             .act(Operation::Share, walk.register, other.register.0);
-        self.emitter.code.end_others(walk.register);
-        self.emitter.close_noting(&other, code);
-        self.emitter.code.usage.release(walk.register);
-        self.emitter.close_coded(&walk, handler, code)
-    }
-
-    // Methods
-
-    /// A call of a function, or of a method.
-    pub fn begin_call_statement(&mut self, statement: Statement, at: ExpressionAt) {
-        let Some(expression) = self.emitter.tree.expression(at) else {
-            return;
-        };
-        match expression.kind {
-            ExpressionKind::Call(arguments) => {
-                if statement.otherwise.is_some() {
-                    return self.emitter.error(statement.span, ErrorKind::CALL_ELSE);
-                }
-                self.begin_call(at, expression.span, arguments, false)
-            }
-            _ => self.begin_method(at, statement, false),
-        }
+        self.code.end_others(walk.register);
+        self.close_noting(&other, code);
+        self.code.usage.release(walk.register);
+        self.close_coded(&walk, handler, code)
     }
 
     /// Works out a method's value and its place, and then the method. The item may get a name.
     pub fn begin_method(&mut self, at: ExpressionAt, statement: Statement, is_named: bool) {
         let Some((span, arguments)) = self.method_of(at) else {
-            return self.emitter.error_at(at, ErrorKind::NO_METHOD);
+            return self.error_at(at, ErrorKind::NO_METHOD);
         };
-        let word = self.emitter.word(span);
+        let word = self.word(span);
         if !is_push(word) && !is_pop(word) {
-            return self.emitter.error(span, ErrorKind::NO_METHOD);
+            return self.error(span, ErrorKind::NO_METHOD);
         }
-        let tree = self.emitter.tree;
+        let tree = self.tree;
         let value = match value_of(tree.arguments(arguments), is_push(word)) {
             Ok(value) => value,
-            Err(kind) => return self.emitter.error(span, kind),
+            Err(kind) => return self.error(span, kind),
         };
         let task = method_task(statement, is_named, is_push(word), value.is_some());
-        self.emitter.then(&[Task::Place(at, 1), task]);
+        self.then(&[Task::Place(at, 1), task]);
         if let Some(value) = value {
-            self.emitter.then(&[Task::Evaluate(value, None)]);
+            self.then(&[Task::Evaluate(value, None)]);
         }
     }
 
     /// The name and the arguments of the method at the end of a place.
     fn method_of(&self, at: ExpressionAt) -> Option<(Span, Range)> {
-        let step = self.emitter.last_step(at)?;
+        let step = self.last_step(at)?;
         match step.kind {
             StepKind::Method(arguments) => Some((step.span, arguments)),
             _ => None,
@@ -496,26 +460,24 @@ impl Compiler<'_> {
 
     /// The type of a container's items, if it has the method at the end of an expression.
     pub fn method_item(&mut self, at: ExpressionAt, place: &Place, has_value: bool) -> TypeAt {
-        let Some(step) = self.emitter.last_step(at) else {
-            self.emitter.skip();
+        let Some(step) = self.last_step(at) else {
+            self.skip();
             return TypeAt::INT;
         };
-        let word = self.emitter.word(step.span);
-        let shape = self.emitter.program.types.shape(place.value_type);
+        let word = self.word(step.span);
+        let shape = self.program.types.shape(place.value_type);
         let is_list = matches!(shape, Shape::Of(Container::List, _));
         let is_at_end = word == b"push".as_slice() || word == b"pop".as_slice();
         match shape.item() {
             Some(item) if is_list || (is_at_end && shape.is_sequence()) => {
                 if has_value && item != TypeAt::INT {
-                    self.emitter
-                        .type_error(step.span, ErrorKind::ITEM_IS_NO, item);
+                    self.type_error(step.span, ErrorKind::ITEM_IS_NO, item);
                     return TypeAt::INT;
                 }
                 item
             }
             _ => {
-                self.emitter
-                    .type_error(step.span, ErrorKind::WRONG_METHOD, place.value_type);
+                self.type_error(step.span, ErrorKind::WRONG_METHOD, place.value_type);
                 TypeAt::INT
             }
         }
@@ -526,16 +488,16 @@ impl Compiler<'_> {
         let StatementKind::Call(at) = statement.kind else {
             return;
         };
-        let mut place = self.emitter.pop_place();
-        self.emitter.enter_content(&mut place);
+        let mut place = self.pop_place();
+        self.enter_content(&mut place);
         let item = self.method_item(at, &place, has_value);
-        let word = match self.emitter.last_step(at) {
-            Some(step) => self.emitter.word(step.span),
+        let word = match self.last_step(at) {
+            Some(step) => self.word(step.span),
             None => b"".as_slice(),
         };
-        self.emitter.check_changeable(&place);
+        self.check_changeable(&place);
         if word != b"push".as_slice() {
-            self.emitter.remove(&place, Removed::Below, statement.span);
+            self.remove(&place, Removed::Below, statement.span);
         }
         let value = self.hold_pushed(has_value);
         let handler = self.method_handler(statement, word);
@@ -551,18 +513,18 @@ impl Compiler<'_> {
         item: TypeAt,
         handler: Handler,
     ) {
-        let code = self.emitter.code.literal_held(0);
-        let walk = self.emitter.walk(place, is_push(word));
+        let code = self.code.literal_held(0);
+        let walk = self.walk(place, is_push(word));
         self.emit_method(word, &walk, place, value, item, code);
-        self.emitter.close_coded(&walk, handler, code)
+        self.close_coded(&walk, handler, code)
     }
 
     /// What is done if a method fails. A pop from nothing isn't told.
     fn method_handler(&mut self, statement: Statement, word: &[u8]) -> Handler {
         if is_push(word) {
-            return self.emitter.handler(statement);
+            return self.handler(statement);
         }
-        self.emitter.own_handler(statement)
+        self.own_handler(statement)
     }
 
     /// Emits a push or a pop at the end of a walk. If it fails, a register is set to the code.
@@ -575,16 +537,16 @@ impl Compiler<'_> {
         item: TypeAt,
         code: Register,
     ) {
-        let failed = self.emitter.code.take_held();
+        let failed = self.code.take_held();
         if is_push(word) {
             self.push_item(word, failed, walk, place, value, item);
         } else {
             self.pop_item(word, failed, walk);
         }
-        self.emitter.code.close_noting(failed, code);
-        self.emitter.code.usage.release(failed);
+        self.code.close_noting(failed, code);
+        self.code.usage.release(failed);
         if let Some(value) = value {
-            self.emitter.code.usage.release(value);
+            self.code.usage.release(value);
         }
     }
 
@@ -595,8 +557,7 @@ impl Compiler<'_> {
             _ => Operation::PopFront,
         };
         let registers = [register.0, walk.register.0, 0];
-        self.emitter
-            .code
+        self.code
             .open_change(operation, registers, register, Known::Number)
     }
 
@@ -612,10 +573,10 @@ impl Compiler<'_> {
     ) {
         if place.value_type == TypeAt::TEXT {
             let Some(value) = value else {
-                return self.emitter.error(place.span, ErrorKind::BYTE_WANTED);
+                return self.error(place.span, ErrorKind::BYTE_WANTED);
             };
             let registers = [register.0, walk.register.0, value.0];
-            return self.emitter.code.open(
+            return self.code.open(
                 Operation::AddByte,
                 registers,
                 Operand::Plain(0),
@@ -625,7 +586,7 @@ impl Compiler<'_> {
         }
         self.open_push(word == b"push".as_slice(), register, walk, item);
         if let Some(value) = value {
-            self.emitter.code.act(Operation::Store, register, value.0);
+            self.code.act(Operation::Store, register, value.0);
         }
     }
 }
