@@ -122,7 +122,10 @@ impl Compiler<'_> {
         let before = construct.mark.ended();
         for at in before..self.emitter.code.ended.len() {
             if let Some(ended) = self.emitter.code.ended.get(at).copied() {
-                if self.emitter.is_outer_name(ended.name, construct.mark.emitter.names) {
+                if self
+                    .emitter
+                    .is_outer_name(ended.name, construct.mark.emitter.names)
+                {
                     found = true;
                 }
             }
@@ -136,7 +139,10 @@ impl Compiler<'_> {
         let mut outer = Vec::new(self.emitter.alloc);
         for at in before..kept {
             if let Some(ended) = self.emitter.code.ended.get(at).copied() {
-                if self.emitter.is_outer_name(ended.name, construct.mark.emitter.names) {
+                if self
+                    .emitter
+                    .is_outer_name(ended.name, construct.mark.emitter.names)
+                {
                     append(&mut outer, ended, &mut self.emitter.code.trouble);
                 }
             }
@@ -151,4 +157,3 @@ impl Compiler<'_> {
         }
     }
 }
-

@@ -125,10 +125,7 @@ impl Emitter<'_> {
             return span;
         };
         match expression.kind {
-            ExpressionKind::Call(arguments) => match self.tree
-                .arguments(arguments)
-                .get(index)
-            {
+            ExpressionKind::Call(arguments) => match self.tree.arguments(arguments).get(index) {
                 Some(argument) => self.span_of(*argument),
                 None => span,
             },

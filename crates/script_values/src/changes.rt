@@ -8,8 +8,8 @@ use script_code::{
     About, Error, ErrorKind, Known, Meaning, Operand, Place, Register, Root, Shape, TypeAt, WayKind,
 };
 use script_syntax::{
-    BinaryOperator, Container, ExpressionAt, Item, Range, SetOperator, Span,
-    Statement, StatementKind, StepKind, ValueKind,
+    BinaryOperator, Container, ExpressionAt, Item, Range, SetOperator, Span, Statement,
+    StatementKind, StepKind, ValueKind,
 };
 
 impl Emitter<'_> {
@@ -293,8 +293,7 @@ impl Emitter<'_> {
     /// Moves an owned object into the last place.
     pub fn put_owned(&mut self, statement: Statement, owner: usize) {
         let place = self.pop_place();
-        let Shape::Of(Container::Own, content) = self.program.types.shape(place.value_type)
-        else {
+        let Shape::Of(Container::Own, content) = self.program.types.shape(place.value_type) else {
             return self.skip();
         };
         let span = self.item_span(&statement);
@@ -304,8 +303,7 @@ impl Emitter<'_> {
         let handler = self.place_handler(statement, &place);
         let code = self.code_register(&place, handler);
         let walk = self.walk(&place, true);
-        self.code
-            .act(Operation::Put, walk.register, register.0);
+        self.code.act(Operation::Put, walk.register, register.0);
         self.code.end_others(walk.register);
         self.code.forget_owner(register);
         self.close_handling(&walk, handler, code)

@@ -652,8 +652,7 @@ impl Emitter<'_> {
             is_frozen: false,
         };
         let registers = [register.0, walk.register.0, 0];
-        self.code
-            .open_change(operation, registers, register, known)
+        self.code.open_change(operation, registers, register, known)
     }
 
     /// Binds a pushed item.

@@ -154,8 +154,7 @@ impl Emitter<'_> {
 
     fn emit_kill_unique(&mut self, value_type: TypeAt, to: Register) {
         let operand = Operand::Type(value_type);
-        self.code
-            .emit(Operation::KillUnique, [to.0, 0, 0], operand);
+        self.code.emit(Operation::KillUnique, [to.0, 0, 0], operand);
         self.code.end_class(Class::Unique(value_type))
     }
 
@@ -168,8 +167,7 @@ impl Emitter<'_> {
             None => NONE,
         };
         let operand = Operand::Named(object.value_type, object.constant);
-        self.code
-            .emit(Operation::Kill, [to.0, number, 0], operand);
+        self.code.emit(Operation::Kill, [to.0, number, 0], operand);
         self.code.end_class(Class::Named(object.constant))
     }
 
