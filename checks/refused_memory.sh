@@ -10,7 +10,7 @@ trap 'rm -rf "$work"' EXIT
 
 cc -O1 -shared -fPIC -o "$work/refuse.so" "$here/refuse.c" -ldl
 mkdir "$work/files"
-cp "$here"/../examples/{counter.image,increment.client,increment.text} "$work/files"
+cp "$here"/../examples/{counter.image,increment.client,increment.text,increment.lez} "$work/files"
 "$segtool" new "$work/files/table.image" 1024 best tree
 
 # makes a new copy of the files
@@ -70,5 +70,11 @@ try shrink table.image
 try upgrade counter.image
 try asm increment.text assembled.client
 try asm increment.text increment.client
+try compile increment.lez compiled.client
+try compile increment.lez increment.client --on counter.image
+try verify counter.image increment.lez
+try verify counter.image increment.lez --explain
+try run counter.image saved.image increment.lez increment.client
+try trace counter.image increment.lez
 try print increment.client
 try --version

@@ -10,7 +10,7 @@ _segtool()
             skipped=1
         elif [[ -n $skipped ]]; then
             skipped=''
-        elif [[ $word == @(--base|--room|--input|--svg) ]]; then
+        elif [[ $word == @(--base|--room|--input|--svg|--on) ]]; then
             skipped=1
         elif [[ $word != -* ]]; then
             if [[ -z $command ]]; then command=$word; else position=$((position + 1)); fi
@@ -21,9 +21,9 @@ _segtool()
     [[ $current == = ]] && current=''
     local words='' files=''
     if [[ -n $skipped ]]; then
-        [[ $previous == @(--input|--svg) ]] && files=1
+        [[ $previous == @(--input|--svg|--on) ]] && files=1
     elif [[ -z $command ]]; then
-        words='new check verify run trace stat list show map grow shrink upgrade asm print help'
+        words='new check verify run trace stat list show map grow shrink upgrade asm compile print help'
         [[ $current == -* ]] && words='-h --help -V --version'
     elif [[ $current == -* ]]; then
         case $command in
@@ -40,6 +40,7 @@ _segtool()
             shrink) words='--explain -h --help' ;;
             upgrade) words='--explain -h --help' ;;
             asm) words='--force --explain -h --help' ;;
+            compile) words='--on --force --explain -h --help' ;;
             print) words='--explain -h --help' ;;
         esac
     else
@@ -64,8 +65,10 @@ _segtool()
             upgrade:1) files=1 ;;
             asm:1) files=1 ;;
             asm:2) files=1 ;;
+            compile:1) files=1 ;;
+            compile:2) files=1 ;;
             print:1) files=1 ;;
-            help:1) words='new check verify run trace stat list show map grow shrink upgrade asm print' ;;
+            help:1) words='new check verify run trace stat list show map grow shrink upgrade asm compile print' ;;
         esac
     fi
     if [[ -n $words ]]; then

@@ -17,7 +17,7 @@ function __segtool_at
     for word in (commandline -opc)[2..-1]
         if test $skipped = 1
             set skipped 0
-        else if contains -- $word --base --room --input --svg
+        else if contains -- $word --base --room --input --svg --on
             set skipped 1
         else if not string match -q -- '-*' $word
             set position (math $position + 1)
@@ -47,6 +47,7 @@ complete -c segtool -n 'test -z "$(__segtool_command)"' -a grow -d 'Adds free me
 complete -c segtool -n 'test -z "$(__segtool_command)"' -a shrink -d 'Removes the free memory at the end of a segment, rewrites the file and prints the new size'
 complete -c segtool -n 'test -z "$(__segtool_command)"' -a upgrade -d 'Rewrites an image as version 2 and prints the version'
 complete -c segtool -n 'test -z "$(__segtool_command)"' -a asm -d 'Assembles the text of a client to a client file'
+complete -c segtool -n 'test -z "$(__segtool_command)"' -a compile -d 'Compiles a program to a client file, or prints its errors'
 complete -c segtool -n 'test -z "$(__segtool_command)"' -a print -d 'Prints the text of a client file'
 complete -c segtool -n 'test -z "$(__segtool_command)"' -a help -d 'Print this message or the help of the given subcommand(s)'
 
@@ -119,8 +120,15 @@ complete -c segtool -n 'test "$(__segtool_command)" = asm' -s h -l help -d 'Prin
 complete -c segtool -n '__segtool_at asm 1' -F
 complete -c segtool -n '__segtool_at asm 2' -F
 
+complete -c segtool -n 'test "$(__segtool_command)" = compile' -l on -r -F -d 'The image whose types the client uses by number [default: a new image]'
+complete -c segtool -n 'test "$(__segtool_command)" = compile' -l force -d 'Overwrite a file even if it isn\'t a client'
+complete -c segtool -n 'test "$(__segtool_command)" = compile' -l explain -d 'After a failure, also print what is wrong, where, and what would be right'
+complete -c segtool -n 'test "$(__segtool_command)" = compile' -s h -l help -d 'Print help'
+complete -c segtool -n '__segtool_at compile 1' -F
+complete -c segtool -n '__segtool_at compile 2' -F
+
 complete -c segtool -n 'test "$(__segtool_command)" = print' -l explain -d 'After a failure, also print what is wrong, where, and what would be right'
 complete -c segtool -n 'test "$(__segtool_command)" = print' -s h -l help -d 'Print help'
 complete -c segtool -n '__segtool_at print 1' -F
 
-complete -c segtool -n '__segtool_at help 1' -a 'new check verify run trace stat list show map grow shrink upgrade asm print' -d 'A command'
+complete -c segtool -n '__segtool_at help 1' -a 'new check verify run trace stat list show map grow shrink upgrade asm compile print' -d 'A command'

@@ -1,10 +1,13 @@
 //! The library calls that the commands make. They have no contracts here: the commands are tested, not proved.
 
+use cli_program::Failure;
 use lezgauri::{
-    AllocatorKind, Client, Fault, Image, IndexKind, Ready, Verified, assemble, parse, prepare,
-    print, verify,
+    AllocatorKind, Client, Fault, Image, IndexKind, Ready, TypeTable, Verified, assemble, check,
+    parse, prepare, print, verify,
 };
-use std::alloc::Global;
+use script_compile::{Refusal, client_of, compile};
+use script_syntax::{Span, Tree};
+use std::alloc::{AllocError, Global};
 
 pub(crate) fn created(
     alloc: Global,
@@ -21,6 +24,11 @@ pub(crate) fn opened(alloc: Global, bytes: Vec<u8>) -> Result<Image<Global>, Fau
         Ok(image) => Ok(image),
         Err(unopened) => Err(unopened.fault),
     }
+}
+
+/// The types of a sound image, or its first fault.
+pub(crate) fn checked(alloc: Global, bytes: &[u8]) -> Result<TypeTable, Fault> {
+    check(alloc, bytes)
 }
 
 /// Grows the segment by `extra` bytes, and returns the new size in bytes.
@@ -52,12 +60,60 @@ pub(crate) fn assembled(alloc: Global, text: &[u8]) -> Result<Vec<u8>, Fault> {
     assemble(alloc, text)
 }
 
+/// The client of the program in a file with this name, for an image with these types.
+pub(crate) fn compiled<'a>(
+    alloc: Global,
+    file: &str,
+    program: &[u8],
+    types: &TypeTable,
+) -> Result<script_compile::Client, Failure<'a>> {
+    match client_of(alloc, file, program, types) {
+        Ok(client) => Ok(client),
+        Err(Refusal::Errors(lines)) => Err(Failure::Program(lines)),
+        Err(Refusal::Memory) => Err(Failure::from(Fault::Memory)),
+    }
+}
+
+/// For each instruction of a program's client, the line of the program that it comes from; nothing if the program has errors.
+pub(crate) fn lines_of(
+    alloc: Global,
+    program: &[u8],
+    types: &TypeTable,
+) -> Result<Vec<usize>, AllocError> {
+    match script_syntax::parse(alloc, program) {
+        Ok(tree) => lines_of_tree(alloc, &tree, types),
+        Err(script_syntax::Failure::Errors(_)) => Ok(Vec::new(alloc)),
+        Err(script_syntax::Failure::Memory) => Err(AllocError),
+    }
+}
+
+fn lines_of_tree(
+    alloc: Global,
+    tree: &Tree<'_>,
+    types: &TypeTable,
+) -> Result<Vec<usize>, AllocError> {
+    match compile(alloc, tree, types) {
+        Ok(client) => lines_in(alloc, client.places.as_slice()),
+        Err(script_compile::Failure::Errors(_)) => Ok(Vec::new(alloc)),
+        Err(script_compile::Failure::Memory) => Err(AllocError),
+    }
+}
+
+fn lines_in(alloc: Global, places: &[Span]) -> Result<Vec<usize>, AllocError> {
+    let mut lines = Vec::new(alloc);
+    for place in places {
+        lines.push(place.line)?;
+    }
+    Ok(lines)
+}
+
 /// The canonical text of a client.
 pub(crate) fn printed(alloc: Global, client: &[u8]) -> Result<Vec<u8>, Fault> {
     let client = parsed(client)?;
     print(alloc, &client)
 }
 
-fn parsed(client: &[u8]) -> Result<Client<'_>, Fault> {
+/// A client that is read from its file.
+pub(crate) fn parsed(client: &[u8]) -> Result<Client<'_>, Fault> {
     parse(client)
 }

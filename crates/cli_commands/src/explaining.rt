@@ -1,6 +1,7 @@
 ghost use Rattle.std.specs.Prelude.{◌≡◌, false};
 
 use crate::problems::told;
+use crate::programs::compiled_again;
 use cli_explain::{Sources, explain};
 use cli_host::{Files, ImageTask, Request, read_file, read_files, read_image};
 use cli_program::{Failure, slices, tell};
@@ -37,7 +38,7 @@ fn words_of<'a, F: Files>(
         Failure::Absent(name) => absent(alloc, name),
         Failure::File(name, problem) => told(alloc, name, *problem),
         Failure::Output => Vec::from_slice(alloc, failed_output(request).as_bytes()),
-        Failure::Words(_) => Ok(Vec::new(alloc)),
+        Failure::Words(_) | Failure::Program(_) => Ok(Vec::new(alloc)),
     }
 }
 
@@ -81,9 +82,13 @@ impl Read {
             None => None,
         };
         let names = clients_of(alloc, request)?;
-        let clients = match read_files(alloc, files, names.as_slice()) {
-            Ok(clients) => clients,
+        let sources = match read_files(alloc, files, names.as_slice()) {
+            Ok(sources) => sources,
             Err(_) => Vec::new(alloc),
+        };
+        let clients = match &image {
+            Some(image) => compiled_again(alloc, names.as_slice(), sources, image.as_slice()),
+            None => sources,
         };
         Ok(Read {
             image,
@@ -101,7 +106,9 @@ fn text_of<'a>(request: &Request<'a>) -> Option<&'a str> {
         | Request::Image { .. }
         | Request::Verify { .. }
         | Request::Run(_)
+        | Request::RunPrograms(_)
         | Request::Trace(_)
+        | Request::Compile(_)
         | Request::Print { .. }
         | Request::Help(_) => None,
     }
@@ -112,8 +119,9 @@ fn image_of<'a>(request: &Request<'a>) -> Option<&'a str> {
     match request {
         Request::Image { file, .. } => Some(file),
         Request::Verify { image, .. } => Some(image),
-        Request::Run(run) => Some(run.image),
+        Request::Run(run) | Request::RunPrograms(run) => Some(run.image),
         Request::Trace(trace) => Some(trace.image),
+        Request::Compile(compilation) => compilation.image,
         Request::New(_) | Request::Assemble(_) | Request::Print { .. } | Request::Help(_) => {
             None
         }
@@ -127,10 +135,14 @@ fn clients_of<'a>(alloc: Global, request: &Request<'a>) -> Result<Vec<&'a str>, 
             Vec::from_slice(alloc, &[*client])
         }
         Request::Trace(trace) => Vec::from_slice(alloc, &[trace.client]),
-        Request::Run(run) => Vec::from_slice(alloc, run.clients.as_slice()),
-        Request::New(_) | Request::Image { .. } | Request::Assemble(_) | Request::Help(_) => Ok(
-            Vec::new(alloc),
-        ),
+        Request::Run(run) | Request::RunPrograms(run) => {
+            Vec::from_slice(alloc, run.clients.as_slice())
+        }
+        Request::New(_)
+        | Request::Image { .. }
+        | Request::Assemble(_)
+        | Request::Compile(_)
+        | Request::Help(_) => Ok(Vec::new(alloc)),
     }
 }
 
@@ -144,7 +156,7 @@ fn absent(alloc: Global, name: &str) -> Result<Vec<u8>, AllocError> {
 /// What a failed output means for a command.
 fn failed_output(request: &Request) -> &'static str {
     match request {
-        Request::Run(_) => {
+        Request::Run(_) | Request::RunPrograms(_) => {
             "the output couldn't be written, and the run ended there; the image as it was then was saved, unless its file failed too\n"
         }
         Request::Image {
@@ -156,6 +168,7 @@ fn failed_output(request: &Request) -> &'static str {
         | Request::Verify { .. }
         | Request::Trace(_)
         | Request::Assemble(_)
+        | Request::Compile(_)
         | Request::Print { .. }
         | Request::Help(_) => "the output couldn't be written\n",
     }

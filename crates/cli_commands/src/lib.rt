@@ -9,5 +9,6 @@ mod listing;
 mod made;
 mod problems;
 mod program;
+mod programs;
 
 pub use program::command;

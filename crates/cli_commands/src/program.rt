@@ -5,8 +5,9 @@ ghost use Rattle.cli_commands.specs.Requests.{OfRun};
 use crate::clients::{assemble_file, print_file, trace_file, verify_file};
 use crate::explaining::explain_failure;
 use crate::images::{image_file, new_file};
+use crate::programs::{compile_file, run_programs};
 use cli_host::{Asked, Files, Request};
-use cli_program::{Failure, print, report, run_files};
+use cli_program::{Failure, print, report, run_files, tell_failure};
 use lezgauri::Sink;
 use std::alloc::Global;
 use std::convert::AsStr;
@@ -45,41 +46,48 @@ fn answer<F: Files, O: Sink, E: Sink>(
         (F.was_read files.old) (F.was_read files.new) (F.was_written files.old)
         (F.was_written files.new) (O.taken out.old) (O.taken out.new)) }
 {
-    match perform(alloc, &asked.request, files, out) {
+    match perform(alloc, asked, files, out, err) {
         Ok(()) => 0,
         Err(failure) => {
-            let status = report(alloc, &failure, err);
+            if !err.failed() {
+                tell_failure(alloc, &failure, err);
+            }
             if asked.explained && !err.failed() {
                 // if there is no memory for an explanation, only the line is printed
                 let _ = explain_failure(alloc, &asked.request, &failure, files, err);
             }
-            status
+            failure.status()
         }
     }
 }
 
-/// Performs a request.
-fn perform<'a, F: Files, O: Sink>(
+/// Performs a request. Warnings of programs are told on the error output.
+fn perform<'a, F: Files, O: Sink, E: Sink>(
     alloc: Global,
-    request: &Request<'a>,
+    asked: &Asked<'a>,
     files: &mut F,
     out: &mut O,
+    err: &mut E,
 ) -> Result<(), Failure<'a>>
     requires works { O.has_failed out.old ≡ false }
-    ensures saved { OfRun request.now (λ run. OnOk result (HasSaved run
+    ensures saved { OfRun asked.now.request (λ run. OnOk result (HasSaved run
         (F.was_read files.old) (F.was_read files.new) (F.was_written files.old)
         (F.was_written files.new) (O.taken out.old) (O.taken out.new))) }
-    ensures failed { OfRun request.now (λ run. IfErr result (HasFailed run
+    ensures failed { OfRun asked.now.request (λ run. IfErr result (HasFailed run
         (F.was_read files.old) (F.was_read files.new) (F.was_written files.old)
         (F.was_written files.new) (O.taken out.old) (O.taken out.new))) }
 {
-    match request {
+    match &asked.request {
         Request::New(new) => new_file(alloc, new, files),
         Request::Image { file, task } => image_file(alloc, file, *task, files, out),
-        Request::Verify { image, client } => verify_file(alloc, image, client, files, out),
+        Request::Verify { image, client } => {
+            verify_file(alloc, image, client, asked.explained, files, out, err)
+        }
         Request::Run(run) => run_files(alloc, run, files, out),
-        Request::Trace(trace) => trace_file(alloc, trace, files, out),
+        Request::RunPrograms(run) => run_programs(alloc, run, files, out, err),
+        Request::Trace(trace) => trace_file(alloc, trace, files, out, err),
         Request::Assemble(assembly) => assemble_file(alloc, assembly, files),
+        Request::Compile(compilation) => compile_file(alloc, compilation, files, err),
         Request::Print { client } => print_file(alloc, client, files, out),
         Request::Help(text) => print(out, text.as_bytes()),
     }

@@ -17,8 +17,10 @@ mod rejection;
 mod replay;
 mod rule;
 mod sources;
+mod steps;
 mod text;
 mod types;
 
 pub use fault::explain;
 pub use sources::Sources;
+pub use steps::{ProgramLines, explain_steps};

@@ -24,6 +24,12 @@ const CLIENT: Argument = Argument {
     help: "The file of the client",
 };
 
+const CLIENT_OR_PROGRAM: Argument = Argument {
+    id: "CLIENT",
+    takes: Takes::Word,
+    help: "The file of the client, or of a program (.lez)",
+};
+
 const NEW: [Argument; 5] = [
     Argument {
         id: "FILE",
@@ -48,7 +54,7 @@ const NEW: [Argument; 5] = [
     FORCE,
 ];
 
-const TRACE: [Argument; 3] = [IMAGE, CLIENT, INPUT];
+const TRACE: [Argument; 3] = [IMAGE, CLIENT_OR_PROGRAM, INPUT];
 
 const SHOW: [Argument; 3] = [
     IMAGE,
@@ -105,6 +111,29 @@ const ASSEMBLE: [Argument; 3] = [
     },
 ];
 
+const COMPILE: [Argument; 4] = [
+    Argument {
+        id: "PROGRAM",
+        takes: Takes::Word,
+        help: "The file of the program",
+    },
+    Argument {
+        id: "OUT",
+        takes: Takes::Word,
+        help: "The file to which the client is written",
+    },
+    Argument {
+        id: "on",
+        takes: Takes::File,
+        help: "The image whose types the client uses by number [default: a new image]",
+    },
+    Argument {
+        id: "force",
+        takes: Takes::Flag,
+        help: "Overwrite a file even if it isn't a client",
+    },
+];
+
 /// The commands, in the order of the help text.
 const LINES: &[CommandRow] = &[
     CommandRow {
@@ -122,14 +151,14 @@ const LINES: &[CommandRow] = &[
     CommandRow {
         name: "verify",
         about: "Checks a client and prints the most steps that it can take on an image",
-        arguments: &[IMAGE, CLIENT],
-        examples: "Examples:\n  segtool verify shop.image stock.client\n  segtool verify shop.image stock.client --explain",
+        arguments: &[IMAGE, CLIENT_OR_PROGRAM],
+        examples: "Examples:\n  segtool verify shop.image stock.client\n  segtool verify shop.image stock.client --explain\n  segtool verify shop.image bytes.lez --explain\n\nOf a program, --explain prints the steps of each line.",
     },
     CommandRow {
         name: "run",
         about: "Runs clients on an image, prints their output and saves the image",
         arguments: &RUN,
-        examples: "Examples:\n  segtool run shop.image shop.image stock.client\n  segtool run shop.image saved.image stock.client sell.client --input orders.txt\n\nOUT may be IMAGE, but not a client or the input. A client, and the input, have at most 2^20 bytes.\nIf the output fails (status 3), the run ends there, and the image as it is then is still written to OUT.",
+        examples: "Examples:\n  segtool run shop.image shop.image stock.client\n  segtool run shop.image saved.image stock.client sell.client --input orders.txt\n  segtool run shop.image shop.image bytes.lez\n\nOUT may be IMAGE, but not a client or the input. A client, and the input, have at most 2^20 bytes.\nIf the output fails (status 3), the run ends there, and the image as it is then is still written to OUT.",
     },
     CommandRow {
         name: "trace",
@@ -186,6 +215,12 @@ const LINES: &[CommandRow] = &[
         examples: "Example:\n  segtool asm stock.text stock.client",
     },
     CommandRow {
+        name: "compile",
+        about: "Compiles a program to a client file, or prints its errors",
+        arguments: &COMPILE,
+        examples: "Examples:\n  segtool compile bytes.lez bytes.client --on shop.image\n  segtool compile bytes.lez bytes.client",
+    },
+    CommandRow {
         name: "print",
         about: "Prints the text of a client file",
         arguments: &[CLIENT],
@@ -195,7 +230,7 @@ const LINES: &[CommandRow] = &[
 
 /// The end of each help text.
 const STATUSES: &str =
-    "Exit status: 0 success; 1 a fault, or an absent name; 2 a wrong command line; 3 a file or the output failed.\n\
+    "Exit status: 0 success; 1 a fault, an absent name, or a program's errors; 2 a wrong command line; 3 a file or the output failed.\n\
 Each command takes --explain, which explains its failure.";
 
 /// The parser of `segtool`'s command line.

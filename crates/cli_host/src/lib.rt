@@ -22,6 +22,6 @@ pub use overwriting::{is_same_file, refuse_input, refuse_other_format};
 pub use problem::{FileProblem, Format};
 pub use reading::read;
 pub use request::{
-    Allocator, Asked, Assembly, ImageTask, Index, NewImage, Picture, Request, Trace,
+    Allocator, Asked, Assembly, Compilation, ImageTask, Index, NewImage, Picture, Request, Trace,
 };
-pub use run::{FORCE, INPUT, RUN, Run, run_of};
+pub use run::{FORCE, INPUT, RUN, Run, has_program, is_program, run_of};

@@ -1,8 +1,8 @@
 use crate::command_line::command_line;
 use crate::request::{
-    Allocator, Asked, Assembly, ImageTask, Index, NewImage, Picture, Request, Trace,
+    Allocator, Asked, Assembly, Compilation, ImageTask, Index, NewImage, Picture, Request, Trace,
 };
-use crate::{Misread, number, run_of, word};
+use crate::{Misread, Run, has_program, number, run_of, word};
 use clap::ArgMatches;
 use std::alloc::{AllocError, Global};
 use std::convert::AsStr;
@@ -32,7 +32,7 @@ fn is_explained(matches: &ArgMatches) -> bool {
 
 fn request_of<'a>(alloc: Global, matches: &ArgMatches<'a>) -> Result<Request<'a>, AllocError> {
     match matches.subcommand() {
-        Some(("run", arguments)) => Ok(Request::Run(run_of(alloc, arguments)?)),
+        Some(("run", arguments)) => Ok(run_request(run_of(alloc, arguments)?)),
         Some(("new", arguments)) => Ok(Request::New(new_of(arguments))),
         Some((command, arguments)) => match task_of(command, arguments) {
             Some(task) => Ok(Request::Image {
@@ -43,6 +43,15 @@ fn request_of<'a>(alloc: Global, matches: &ArgMatches<'a>) -> Result<Request<'a>
         },
         // can't happen: the parser requires a command
         None => Ok(Request::Help(String::new(alloc))),
+    }
+}
+
+/// The request to run clients. If some of them are programs, it is another one.
+fn run_request(run: Run<'_>) -> Request<'_> {
+    if has_program(run.clients.as_slice()) {
+        Request::RunPrograms(run)
+    } else {
+        Request::Run(run)
     }
 }
 
@@ -87,6 +96,12 @@ fn client_request<'a>(alloc: Global, command: &str, arguments: &ArgMatches<'a>) 
         "asm" => Request::Assemble(Assembly {
             text: word(arguments, "TEXT"),
             client: word(arguments, "OUT"),
+            forced: arguments.get_flag("force"),
+        }),
+        "compile" => Request::Compile(Compilation {
+            program: word(arguments, "PROGRAM"),
+            client: word(arguments, "OUT"),
+            image: arguments.get_str("on"),
             forced: arguments.get_flag("force"),
         }),
         "print" => Request::Print {

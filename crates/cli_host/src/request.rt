@@ -16,8 +16,11 @@ pub enum Request<'a> {
     Image { file: &'a str, task: ImageTask<'a> },
     Verify { image: &'a str, client: &'a str },
     Run(Run<'a>),
+    /// Run clients of which some are programs.
+    RunPrograms(Run<'a>),
     Trace(Trace<'a>),
     Assemble(Assembly<'a>),
+    Compile(Compilation<'a>),
     Print { client: &'a str },
     /// A text for the standard output.
     Help(String),
@@ -80,6 +83,16 @@ pub struct Picture<'a> {
 pub struct Assembly<'a> {
     pub text: &'a str,
     pub client: &'a str,
+    /// Whether `client` is overwritten even if it isn't a client.
+    pub forced: bool,
+}
+
+/// A program to compile into a client, for the types of an image or without one.
+#[derive(Clone, Copy)]
+pub struct Compilation<'a> {
+    pub program: &'a str,
+    pub client: &'a str,
+    pub image: Option<&'a str>,
     /// Whether `client` is overwritten even if it isn't a client.
     pub forced: bool,
 }

@@ -16,6 +16,24 @@ pub struct Run<'a> {
     pub forced: bool,
 }
 
+/// The end of the name of a program's file.
+const PROGRAM: &[u8] = b".lez";
+
+/// Whether the file with this name is a program, in place of a client.
+pub fn is_program(name: &str) -> bool {
+    name.as_bytes().ends_with(PROGRAM)
+}
+
+/// Whether one of the files with these names is a program.
+pub fn has_program(names: &[&str]) -> bool {
+    for name in names {
+        if is_program(name) {
+            return true;
+        }
+    }
+    false
+}
+
 /// The file that a client reads.
 pub const INPUT: Argument = Argument {
     id: "input",
@@ -45,7 +63,7 @@ pub const RUN: [Argument; 7] = [
     Argument {
         id: "CLIENT",
         takes: Takes::Words,
-        help: "The files of the clients, which run one after the other",
+        help: "The files of the clients or programs (.lez), which run one after the other",
     },
     Argument {
         id: "base",

@@ -1,15 +1,19 @@
 -- What a run read, and how it failed.
-use Rattle.std.proofs.Common.{◌≡◌, inl, subst, ℕ, List, [], ◌∷◌, ◌++◌, length, map, Option, Result}
+use Rattle.std.proofs.Common.{◌≡◌, ◌⊎◌, inl, inr, subst, ℕ, List, [], ◌∷◌, ◌++◌, length, map, Option, Result}
 use Rattle.std.specs.Prelude.{IfNone, OnOk, Ok, Err}
+use Rattle.client_verify.specs.declared.refused.Refused.{Refused}
+use Rattle.client_vm.specs.declared.report.Report.{Report}
 use Rattle.client_vm.specs.declared.report.Ended.{Ended}
 use Rattle.client_vm.specs.declared.report.Ended.TheVariants.{Done, OutputFailed}
+use Rattle.client_vm.specs.Jobs.{effect_at}
+use Rattle.client_vm.specs.Outcomes.{HasOutcome}
 use Rattle.cli_host.specs.Accesses.{Access, AddsAccesses, access, accesses_of}
 use Rattle.cli_host.proofs.AccessesLaws.{adds_both}
 use Rattle.cli_host.specs.declared.run.Run.{Run}
 use Rattle.cli_program.specs.declared.failure.Failure.{Failure}
 use Rattle.cli_program.specs.declared.failure.Failure.TheVariants as failure
-use Rattle.cli_program.specs.Failures.{IsUnsaved}
-use Rattle.cli_program.specs.Runs.{Read, WasRead, input_read, HasRunFiles, HasSaved, HasFailed}
+use Rattle.cli_program.specs.Failures.{IsUnsaved, out_of_memory}
+use Rattle.cli_program.specs.Runs.{Read, WasRead, input_read, job_of_run, IsRefusal, IsRefusedRun, HasSaved, HasFailed, HasSavedOf, HasFailedOf}
 
 pub all_read : (run : Run) (it : Read) (before first second after : Option (List Access)) → AddsAccesses before first (access run.image.now it.image ∷ []) → length it.texts ≡ length run.clients.items
     → AddsAccesses first second (accesses_of (map (λ client. client.now) run.clients.items) it.texts) → IfNone run.input (it.input ≡ []) → AddsAccesses second after (input_read run.input it.input) → WasRead run before after it
@@ -22,31 +26,56 @@ all_read run it before first second after image same texts none input =
       accesses = adds_both before first after (access run.image.now it.image ∷ []) (named ++ rest) image (adds_both first second after named rest texts input);
     }
 
-module _ (run : Run) (reads reads_then writes writes_then : Option (List Access)) (taken taken_then : Option (List ℕ)) where
-  pub failed_save : (saved : List ℕ) (ended : Ended) (failed : Failure) → HasRunFiles run reads reads_then taken taken_then saved ended → IsUnsaved writes writes_then (access run.out.now saved) ended failed
-      → HasFailed run reads reads_then writes writes_then taken taken_then failed
-  failed_save saved ended (failure.Words text) ran h = absurd h
-  failed_save saved ended (failure.Absent name) ran h = absurd h
-  failed_save saved ended (failure.Refused refused) ran h = (h.0, inl h.1)
-  failed_save saved ended (failure.File name problem) ran h = h
-  failed_save saved ended failure.Output ran h = record {
+module _ (run : Run) (it : Read) (writes writes_then : Option (List Access)) (taken taken_then : Option (List ℕ)) where
+  pub failed_save : (saved : List ℕ) (reports : List Report) (ended : Ended) (failed : Failure) → HasOutcome (job_of_run run it) (effect_at taken taken_then saved reports ended)
+      → IsUnsaved writes writes_then (access run.out.now saved) ended failed → HasFailedOf run it writes writes_then taken taken_then failed
+  failed_save saved reports ended (failure.Words text) outcome h = absurd h
+  failed_save saved reports ended (failure.Program text) outcome h = absurd h
+  failed_save saved reports ended (failure.Absent name) outcome h = absurd h
+  failed_save saved reports ended (failure.Refused refused) outcome h = (h.0, inl h.1)
+  failed_save saved reports ended (failure.File name problem) outcome h = h
+  failed_save saved reports ended failure.Output outcome h = record {
     saved = saved;
-    has_run = subst (HasRunFiles run reads reads_then taken taken_then saved) h.0 ran;
+    reports = reports;
+    outcome = subst (λ e. HasOutcome (job_of_run run it) (effect_at taken taken_then saved reports e)) h.0 outcome;
     was_saved = h.1;
   }
 
-  pub saved_run : (saved : List ℕ) (ended : Ended) → HasRunFiles run reads reads_then taken taken_then saved ended
-      → ended ≡ Done → AddsAccesses writes writes_then (access run.out.now saved ∷ [])
-      → HasSaved run reads reads_then writes writes_then taken taken_then
-  saved_run saved ended ran done written = record {
+  pub saved_by : {T E : Type 0} (result : Result T E) (saved : List ℕ) (reports : List Report) (ended : Ended)
+      → HasOutcome (job_of_run run it) (effect_at taken taken_then saved reports ended) → OnOk result (ended ≡ Done)
+      → OnOk result (AddsAccesses writes writes_then (access run.out.now saved ∷ []))
+      → OnOk result (HasSavedOf run it writes writes_then taken taken_then)
+  saved_by (Ok value) saved reports ended outcome done written = record {
     saved = saved;
-    has_run = subst (HasRunFiles run reads reads_then taken taken_then saved) done ran;
+    reports = reports;
+    outcome = subst (λ e. HasOutcome (job_of_run run it) (effect_at taken taken_then saved reports e)) done outcome;
     was_saved = written;
   }
+  saved_by (Err failed) saved reports ended outcome done written = tt
 
-  pub saved_by : {T E : Type 0} (result : Result T E) (saved : List ℕ) (ended : Ended)
-      → HasRunFiles run reads reads_then taken taken_then saved ended → OnOk result (ended ≡ Done)
-      → OnOk result (AddsAccesses writes writes_then (access run.out.now saved ∷ []))
+module _ (run : Run) (it : Read) (reads reads_then writes writes_then : Option (List Access)) (taken taken_then : Option (List ℕ)) (read : WasRead run reads reads_then it) where
+  pub saved_of : {T E : Type 0} (result : Result T E) → OnOk result (HasSavedOf run it writes writes_then taken taken_then)
       → OnOk result (HasSaved run reads reads_then writes writes_then taken taken_then)
-  saved_by (Ok it) saved ended ran done written = saved_run saved ended ran done written
-  saved_by (Err it) saved ended ran done written = tt
+  saved_of (Ok value) saves = record {
+    saved = saves.saved;
+    has_run = record { it = it; was_read = read; reports = saves.reports; outcome = saves.outcome };
+    was_saved = saves.was_saved;
+  }
+  saved_of (Err failed) saves = tt
+
+  refused_of : (refused : Refused) → IsRefusal (job_of_run run it) refused → (refused ≡ out_of_memory) ⊎ IsRefusedRun run reads reads_then refused
+  refused_of refused (inl h) = inl h
+  refused_of refused (inr h) = inr (record { it = it; was_read = read; reason = h })
+
+  pub failed_of : (failed : Failure) → HasFailedOf run it writes writes_then taken taken_then failed
+      → HasFailed run reads reads_then writes writes_then taken taken_then failed
+  failed_of (failure.Words text) h = absurd h
+  failed_of (failure.Program text) h = absurd h
+  failed_of (failure.Absent name) h = absurd h
+  failed_of (failure.Refused refused) h = (h.0, refused_of refused h.1)
+  failed_of (failure.File name problem) h = h
+  failed_of failure.Output h = record {
+    saved = h.saved;
+    has_run = record { it = it; was_read = read; reports = h.reports; outcome = h.outcome };
+    was_saved = h.was_saved;
+  }

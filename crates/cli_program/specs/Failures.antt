@@ -24,6 +24,7 @@ failure_of (file_failure.File name problem) = failure.File name problem
 abbrev pub IsUnsaved : Option (List Access) → Option (List Access) → Access → Ended → Failure →
     Type 0
 IsUnsaved before after saved ended (failure.Words text) = ⊥
+IsUnsaved before after saved ended (failure.Program text) = ⊥
 IsUnsaved before after saved ended (failure.Absent name) = ⊥
 IsUnsaved before after saved ended (failure.Refused refused) =
     (after ≡ before) × (refused ≡ out_of_memory)

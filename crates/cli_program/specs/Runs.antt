@@ -8,6 +8,9 @@
 --     HasRunFiles ..                 the files were read, and the clients ran on their bytes
 --     HasSaved ..                    so they ran to their end, and the saved image was written
 --     HasFailed ..                   why the command failed, and what it wrote
+--     HasSavedOf run it ..           clients with these bytes ran to their end, and the saved image
+--                                    was written
+--     HasFailedOf run it ..          why such a run failed, and what it wrote
 use Rattle.std.specs.Prelude.{◌≡◌, ◌⊎◌, ℕ, ◌+◌, ◌-◌, ◌^◌, min, List, [], ◌∷◌, ◌++◌, length, map, Option, Some, None, IfNone, unwrap_or}
 use Rattle.std.proofs.Common.{Bor}
 use Rattle.client_vm.specs.declared.report.Report.{Report}
@@ -61,6 +64,31 @@ job_of_run run it =
 abbrev pub IsRefusal : Job → Refused → Type 0
 IsRefusal job refused = (refused ≡ out_of_memory) ⊎ IsRefusedFor job refused
 
+module _ (run : Run) (it : Read) (writes writes_then : Option (List Access)) where
+  pub record HasSavedOf (taken taken_then : Option (List ℕ)) : Type 0 where
+    pub saved : List ℕ
+    pub reports : List Report
+    pub outcome : HasOutcome (job_of_run run it) (effect_at taken taken_then saved reports Done)
+    pub was_saved : AddsAccesses writes writes_then (access run.out.now saved ∷ [])
+
+  -- the output failed; the saved image was written, unless its file failed too
+  pub record OutputFailsOf (taken taken_then : Option (List ℕ)) : Type 0 where
+    pub saved : List ℕ
+    pub reports : List Report
+    pub outcome : HasOutcome (job_of_run run it)
+        (effect_at taken taken_then saved reports OutputFailed)
+    pub was_saved : (writes_then ≡ writes)
+        ⊎ AddsAccesses writes writes_then (access run.out.now saved ∷ [])
+
+  abbrev pub HasFailedOf : Option (List ℕ) → Option (List ℕ) → Failure → Type 0
+  HasFailedOf taken taken_then (failure.Words text) = ⊥
+  HasFailedOf taken taken_then (failure.Program text) = ⊥
+  HasFailedOf taken taken_then (failure.Absent name) = ⊥
+  HasFailedOf taken taken_then (failure.Refused refused) =
+      (writes_then ≡ writes) × IsRefusal (job_of_run run it) refused
+  HasFailedOf taken taken_then (failure.File name problem) = writes_then ≡ writes
+  HasFailedOf taken taken_then failure.Output = OutputFailsOf taken taken_then
+
 module _ (run : Run) (reads reads_then : Option (List Access)) where
   -- The clients ran on the bytes that were read, at the base and in the room of the command line.
   -- The output and the saved image are those of the abstract machine.
@@ -95,6 +123,7 @@ module _ (run : Run) (reads reads_then : Option (List Access)) where
 
     abbrev pub HasFailed : Option (List ℕ) → Option (List ℕ) → Failure → Type 0
     HasFailed taken taken_then (failure.Words text) = ⊥
+    HasFailed taken taken_then (failure.Program text) = ⊥
     HasFailed taken taken_then (failure.Absent name) = ⊥
     HasFailed taken taken_then (failure.Refused refused) =
         (writes_then ≡ writes) × ((refused ≡ out_of_memory) ⊎ IsRefusedRun refused)

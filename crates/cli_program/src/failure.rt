@@ -11,6 +11,8 @@ use std::alloc::{AllocError, Global};
 pub enum Failure<'a> {
     /// The command line is wrong, for this reason.
     Words(String),
+    /// A program has these errors, in lines.
+    Program(String),
     /// The image has no object with this name.
     Absent(&'a str),
     /// The library refused the image, a client or an argument.
@@ -27,16 +29,16 @@ impl Failure<'_> {
         ensures { (0 < result) × (result ≤ 3) }
     {
         match self {
-            Failure::Refused(_) | Failure::Absent(_) => 1,
+            Failure::Refused(_) | Failure::Absent(_) | Failure::Program(_) => 1,
             Failure::Words(_) => 2,
             Failure::File(_, _) | Failure::Output => 3,
         }
     }
 
-    /// The message for the error output: one line, or several for a wrong command line.
+    /// The message for the error output: one line, or several for a wrong command line or program.
     pub fn line(&self, alloc: Global) -> Result<String, AllocError> {
         match self {
-            Failure::Words(text) => format!(in alloc; "{text}"),
+            Failure::Words(text) | Failure::Program(text) => format!(in alloc; "{text}"),
             Failure::Absent(name) => format!(in alloc; "absent {name}\n"),
             Failure::Refused(refused) => format!(in alloc; "{refused}\n"),
             Failure::File(name, _) => format!(in alloc; "file {name}\n"),

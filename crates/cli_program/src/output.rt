@@ -20,10 +20,17 @@ pub fn report<E: Sink>(alloc: Global, failure: &Failure, err: &mut E) -> u8
     requires works { E.has_failed err.old ≡ false }
     ensures status { (0 < result) × (result ≤ 3) }
 {
+    tell_failure(alloc, failure, err);
+    failure.status()
+}
+
+/// Writes the message for a failure, if there is memory for it.
+pub fn tell_failure<E: Sink>(alloc: Global, failure: &Failure, err: &mut E)
+    requires works { E.has_failed err.old ≡ false }
+{
     if let Ok(line) = failure.line(alloc) {
         tell(err, line.as_bytes());
     }
-    failure.status()
 }
 
 /// Writes a text to the error output. A failure is ignored.

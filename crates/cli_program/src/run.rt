@@ -1,7 +1,7 @@
 ghost use Rattle.std.specs.Prelude.{◌≡◌, false, IfOk, IfErr, OnOk, OnErr};
 ghost use Rattle.client_vm.specs.Jobs.{effect_of};
 ghost use Rattle.client_vm.specs.Outcomes.{HasOutcome};
-ghost use Rattle.cli_program.specs.Runs.{read_of, room_of, job_of_run, IsRefusal, HasSaved, HasFailed};
+ghost use Rattle.cli_program.specs.Runs.{read_of, room_of, job_of_run, IsRefusal, HasSaved, HasFailed, HasSavedOf, HasFailedOf};
 
 use crate::failure::Failure;
 use crate::inputs::{Inputs, read_inputs, slices};
@@ -25,6 +25,25 @@ pub fn run_files<'a, F: Files, O: Sink>(
         (F.was_written files.old) (F.was_written files.new) (O.taken out.old) (O.taken out.new)) }
 {
     let inputs = read_inputs(alloc, files, run)?;
+    run_inputs(alloc, run, inputs, files, out)
+}
+
+/// Runs clients whose bytes are given, and writes the saved image, even if their output failed.
+pub fn run_inputs<'a, F: Files, O: Sink>(
+    alloc: Global,
+    run: &Run<'a>,
+    inputs: Inputs,
+    files: &mut F,
+    out: &mut O,
+) -> Result<(), Failure<'a>>
+    requires works { O.has_failed out.old ≡ false }
+    ensures saved { OnOk result (HasSavedOf run.now (read_of inputs) (F.was_written files.old)
+        (F.was_written files.new) (O.taken out.old) (O.taken out.new)) }
+    ensures failed { IfErr result (HasFailedOf run.now (read_of inputs)
+        (F.was_written files.old) (F.was_written files.new) (O.taken out.old)
+        (O.taken out.new)) }
+    ensures nothing_read { F.was_read files.new ≡ F.was_read files.old }
+{
     let outcome = outcome_of(alloc, run, inputs, out)?;
     save(files, run.out, outcome.image.as_slice(), outcome.ended)
 }

@@ -10,5 +10,5 @@ mod paths;
 mod tracer;
 mod untraced;
 
-pub use tracer::trace;
+pub use tracer::{trace, trace_program};
 pub use untraced::Untraced;

@@ -10,18 +10,25 @@ use std::fmt::Write;
 
 /// The output lines of one instruction at a time.
 #[derive(Drop)]
-pub(crate) struct TraceLines {
+pub(crate) struct TraceLines<'a> {
     listing: Listing,
+    /// For each instruction the line of the program that it comes from; empty if there is no program.
+    sources: &'a [usize],
     /// The steps so far.
     steps: u64,
     /// The lines of the last instruction.
     text: String,
 }
 
-impl TraceLines {
-    pub(crate) fn new(alloc: Global, client: &Client) -> Result<TraceLines, AllocError> {
+impl<'a> TraceLines<'a> {
+    pub(crate) fn new(
+        alloc: Global,
+        client: &Client,
+        sources: &'a [usize],
+    ) -> Result<TraceLines<'a>, AllocError> {
         Ok(TraceLines {
             listing: Listing::new(alloc, client)?,
+            sources,
             steps: 0,
             text: String::new(alloc),
         })
@@ -32,16 +39,25 @@ impl TraceLines {
         self.text.as_bytes()
     }
 
-    /// Begins the lines of an instruction: the step's number, the instruction's number, and its text.
+    /// Begins the lines of an instruction: the line of the program, the step's number, the instruction's number, and its text.
     pub(crate) fn begin(&mut self, stepped: Stepped) -> Result<(), AllocError> {
         let Stepped {
             instruction,
             is_step,
         } = stepped;
         self.text.clear();
+        self.add_source(instruction)?;
         self.add_step(is_step)?;
         write!(self.text, " {instruction:>4}  ")?;
         push_bytes(&mut self.text, self.listing.line(instruction))
+    }
+
+    /// Adds the line of the program that an instruction comes from, if there is a program.
+    fn add_source(&mut self, instruction: u16) -> Result<(), AllocError> {
+        match self.sources.get(usize::from(instruction)) {
+            Some(line) => write!(self.text, "{line:>5} "),
+            None => Ok(()),
+        }
     }
 
     /// Adds the number of the next step, or `-` if the instruction is no step.

@@ -31,8 +31,24 @@ pub fn trace<F: Fit, W: Sink>(
     requires works { W.has_failed out.old ≡ false }
     ensures failed { IsErrOf result Untraced.OutputFailed ↔ (W.has_failed out.new ≡ true) }
 {
+    trace_program(alloc, segment, client, &[], input, out)
+}
+
+/// Runs a client as [`trace`] does. Its program has these lines, one for each instruction: each line of the trace begins with
+/// the line of the program that the instruction comes from.
+pub fn trace_program<F: Fit, W: Sink>(
+    alloc: Global,
+    segment: &mut Segment<F, Global>,
+    client: &Ready<Global>,
+    sources: &[usize],
+    input: &[u8],
+    out: &mut W,
+) -> Result<(), Untraced>
+    requires works { W.has_failed out.old ≡ false }
+    ensures failed { IsErrOf result Untraced.OutputFailed ↔ (W.has_failed out.new ≡ true) }
+{
     let verified = client.verified();
-    let mut tracer = Tracer::new(alloc, verified.client())?;
+    let mut tracer = Tracer::new(alloc, verified.client(), sources)?;
     let mut run = Stepper::new(segment, client, input);
     let ended = tracer.to_end(&mut run, segment, verified.bound(), out);
     run.finish(segment);
@@ -45,16 +61,20 @@ struct Tracer<'a> {
     client: Client<'a>,
     known: Known,
     paths: Paths<'a>,
-    lines: TraceLines,
+    lines: TraceLines<'a>,
 }
 
 impl<'a> Tracer<'a> {
-    fn new(alloc: Global, client: Client<'a>) -> Result<Tracer<'a>, AllocError> {
+    fn new(
+        alloc: Global,
+        client: Client<'a>,
+        sources: &'a [usize],
+    ) -> Result<Tracer<'a>, AllocError> {
         Ok(Tracer {
             client,
             known: Known::new(alloc, &client)?,
             paths: Paths::new(&client),
-            lines: TraceLines::new(alloc, &client)?,
+            lines: TraceLines::new(alloc, &client, sources)?,
         })
     }
 

@@ -1,3 +1,4 @@
+mod examples;
 mod explain;
 mod explained;
 mod failures;
@@ -6,6 +7,7 @@ mod files;
 mod language;
 mod overwriting;
 mod problems;
+mod programs;
 mod rows;
 mod segments;
 mod views;

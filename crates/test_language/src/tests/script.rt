@@ -1,7 +1,12 @@
-//! Programs: their trees, and the errors that are reported.
+//! Programs: their trees, the errors that are reported, and what they print when they are run.
 
+mod meaning;
 mod programs;
+mod reports;
+mod running;
+mod runs;
 mod trees;
+mod warnings;
 mod written;
 
 use programs::PROGRAMS;

@@ -28,7 +28,8 @@ pub static PROGRAMS: [&str; 26] = [
     WORDS,
 ];
 
-const EXITS: &str = r#"# break, continue, return and stop, with code behind them at several depths.
+pub const EXITS: &str =
+    r#"# break, continue, return and stop, with code behind them at several depths.
 fn first_above(limit, by) -> int {
     let n = 0
     for i in 0..100 {
@@ -63,7 +64,7 @@ if n == 5 { print "five"; if seen > 0 { stop } print "not here" }
 print "nor here"
 "#;
 
-const OWNED: &str = r#"# A chain of owned objects: made, walked, taken apart.
+pub const OWNED: &str = r#"# A chain of owned objects: made, walked, taken apart.
 struct Node { value: int, next: own<Node> }
 object head: own<Node>
 fail { print "no room"; stop }
@@ -87,7 +88,7 @@ print "-"
 if let _h = head { print "left" } else { print "empty" }
 "#;
 
-const PLACES: &str =
+pub const PLACES: &str =
     r#"# Families, unique objects, arrays, vectors of structs, and names that stay good.
 struct Point { x: int, y: int }
 struct Shape { name: text, points: vec<Point> }
@@ -131,7 +132,7 @@ delete grid
 print grid[3] ?? -1
 "#;
 
-const TEXTS: &str = r#"# Texts: built, compared with constant ones, copied, cut.
+pub const TEXTS: &str = r#"# Texts: built, compared with constant ones, copied, cut.
 const HI = "hello"
 fail { print "no room"; stop }
 let t = new text
@@ -154,7 +155,7 @@ if t[0] ?? 0 == 'x' { print "x it is" }
 for i, b in u max 5 { print i, ":", b }
 "#;
 
-const NUMBERS: &str = r#"# Operators, their order, short circuit.
+pub const NUMBERS: &str = r#"# Operators, their order, short circuit.
 const A = 3 + 4 * 2
 const BIG = 0x7fff_ffff_ffff
 object calls: int
@@ -180,7 +181,7 @@ for b in input max 1000 { if b >= 'a' && b <= 'z' { write b - 'a' + 1, " " } els
 print
 "#;
 
-const DEEP: &str = r#"# More than 8 parts deep, in the source.
+pub const DEEP: &str = r#"# More than 8 parts deep, in the source.
 struct Leaf { count: int, name: text }
 object tree: map<Leaf>
 object log: list<int>
@@ -218,7 +219,7 @@ for i in 0..3 {
 print tree[3].count ?? 0
 "#;
 
-const SHARED: &str = r#"# Frozen values, shared ones inside, and what stays when the name goes.
+pub const SHARED: &str = r#"# Frozen values, shared ones inside, and what stays when the name goes.
 struct Page { number: int, before: shared<Page> }
 object top: shared<Page>
 object old: shared<Page>
@@ -238,7 +239,7 @@ clear old
 print old.number ?? -1
 "#;
 
-const BYTES: &str = r#"# How often each byte of the input was seen.
+pub const BYTES: &str = r#"# How often each byte of the input was seen.
 object counts: map<int>
 fail { print "no room" }
 
@@ -247,7 +248,7 @@ for b in input { counts[b] += 1 }
 for b, n in counts max 256 { print b, " ", n }
 "#;
 
-const CACHE: &str = r#"# A cache of three entries, asked for the bytes of the input.
+pub const CACHE: &str = r#"# A cache of three entries, asked for the bytes of the input.
 object cache: map<int>
 object order: list<int>
 const SIZE = 3
@@ -265,7 +266,7 @@ for b in input max 1_000_000 {
 }
 "#;
 
-const CONFIG: &str = r#"# Publishes a table of settings, by key a text.
+pub const CONFIG: &str = r#"# Publishes a table of settings, by key a text.
 object config: shared<map<text>>
 fail { print "no room" }
 
@@ -275,7 +276,7 @@ table[2] = "8080"
 freeze config = table
 "#;
 
-const CONFIG_READER: &str = r#"# Reads it: shares what is published, and prints it.
+pub const CONFIG_READER: &str = r#"# Reads it: shares what is published, and prints it.
 object config: shared<map<text>>
 object mine: shared<map<text>>
 
@@ -285,7 +286,7 @@ if let now = mine {
 } else { print "none" }
 "#;
 
-const CONFIGURATION: &str =
+pub const CONFIGURATION: &str =
     r#"# Makes a new configuration of what is published and lines `key=value` of the input, keys of digits, and publishes it.
 # Readers that share the old one keep it.
 struct Config { version: int, values: map<text> }
@@ -314,7 +315,7 @@ for b in input max 10_000 {
 freeze published = next
 "#;
 
-const CONFIGURE: &str =
+pub const CONFIGURE: &str =
     r#"# Writes a table of settings that other programs share: a greeting, and by their numbers a limit and a port.
 # The port stays where a program has set it already.
 struct Settings { numbers: flat_map<int>, greeting: text }
@@ -328,13 +329,13 @@ settings.numbers[LIMIT] = 640
 if let _port = settings.numbers[PORT] { } else { settings.numbers[PORT] = 8080 }
 "#;
 
-const COUNT: &str = r#"# Counts its runs in the number `runs`, which is made by the first one.
+pub const COUNT: &str = r#"# Counts its runs in the number `runs`, which is made by the first one.
 object runs: int
 runs += 1 else { print "no room"; stop }
 print runs ?? 0
 "#;
 
-const DIGITS: &str = r#"# Numbers inside a line, at their ends.
+pub const DIGITS: &str = r#"# Numbers inside a line, at their ends.
 fail { print "no room" }
 let min = -9223372036854775807 - 1
 print "<", min, "> <", 9223372036854775807 + 0 * min, ">"
@@ -357,7 +358,7 @@ t = "n=", n, ", ", min, ", "
 print t
 "#;
 
-const INCREMENT: &str = r#"# Adds 1 to the number `x`, where there is one, and prints it.
+pub const INCREMENT: &str = r#"# Adds 1 to the number `x`, where there is one, and prints it.
 object x: int
 fail { }
 if let n = x {
@@ -366,7 +367,7 @@ if let n = x {
 }
 "#;
 
-const LRU: &str = r#"# A cache that lets the entry go which wasn't asked for the longest time.
+pub const LRU: &str = r#"# A cache that lets the entry go which wasn't asked for the longest time.
 struct Entry { value: int, stamp: int }
 struct Cache { entries: map<Entry>, age: map<int>, clock: int }
 object lru: Cache
@@ -396,7 +397,7 @@ for b in input max 1_000_000 {
 }
 "#;
 
-const NOTICE: &str = r#"# Prints the notice that is shown: its number, and its text.
+pub const NOTICE: &str = r#"# Prints the notice that is shown: its number, and its text.
 struct Notice { number: int, words: text }
 object shown: shared<Notice>
 
@@ -406,7 +407,7 @@ if let notice = shown {
 } else { print "no notice" }
 "#;
 
-const PRINT_USERS: &str = r#"# Prints all users.
+pub const PRINT_USERS: &str = r#"# Prints all users.
 struct User { name: text, age: int, tags: list<text> }
 family user: User
 object users: int
@@ -419,7 +420,7 @@ for n in 1..(users ?? 0) + 1 max 1000 {
 }
 "#;
 
-const PUBLISH: &str =
+pub const PUBLISH: &str =
     r#"# Publishes a notice, a number and a text: it is frozen under the name `latest`, and shared under the name `shown`. From then on
 # no client changes it; each run publishes another one.
 struct Notice { number: int, words: text }
@@ -434,7 +435,7 @@ freeze latest = notice
 share shown = latest
 "#;
 
-const QUEUE: &str = r#"# A queue of four: `+x` puts x in, `-` takes the first out and prints it.
+pub const QUEUE: &str = r#"# A queue of four: `+x` puts x in, `-` takes the first out and prints it.
 object queue: list<int>
 const SIZE = 4
 fail { print "no room" }
@@ -452,7 +453,7 @@ for b in input {
 }
 "#;
 
-const READER: &str =
+pub const READER: &str =
     r#"# Keeps the configuration that it found first, and says where a newer one is published.
 struct Config { version: int, values: map<text> }
 object published: shared<Config>
@@ -466,7 +467,7 @@ let newest = published.version ?? 0
 if newest > s.version { print "version ", s.version, ", and ", newest, " is published" } else { print "version ", s.version }
 "#;
 
-const SETTINGS: &str =
+pub const SETTINGS: &str =
     r#"# Prints the table of settings: each number with its value, and the greeting.
 struct Settings { numbers: flat_map<int>, greeting: text }
 object settings: Settings
@@ -480,7 +481,7 @@ if let s = settings {
 } else { print "no settings" }
 "#;
 
-const USERS: &str = r#"# Reads lines `name age tag tag ..` into users.
+pub const USERS: &str = r#"# Reads lines `name age tag tag ..` into users.
 struct User { name: text, age: int, tags: list<text> }
 family user: User
 object users: int
@@ -501,7 +502,7 @@ for b in input {
 users = n - 1
 "#;
 
-const WAITING: &str =
+pub const WAITING: &str =
     r#"# A queue by priority: a flat map from the priority to the list of what waits, first come, first served.
 # Input: lines `+P name` put a name in with the digit P, and `-` takes the first of the least P out.
 object waiting: flat_map<list<text>>
@@ -529,7 +530,7 @@ for b in input max 100_000 {
 }
 "#;
 
-const WORDS: &str =
+pub const WORDS: &str =
     r#"# How often each word of the input occurs, by a rolling hash of its bytes. Words of the same hash would be counted as one.
 struct Word { name: text, times: int }
 object words: map<Word>

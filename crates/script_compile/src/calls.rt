@@ -1,0 +1,141 @@
+//! Calls of functions. A function is compiled where it is called.
+
+use crate::compiler::{Compiler, Construct, ConstructKind};
+use script_code::{About, ErrorKind, Function};
+use script_syntax::{ExpressionAt, ExpressionKind, Range, Span, Statement};
+use script_values::Task;
+
+impl Compiler<'_> {
+    /// A call of a function, or of a method.
+    pub fn begin_call_statement(&mut self, statement: Statement, at: ExpressionAt) {
+        let Some(expression) = self.emitter.tree.expression(at) else {
+            return;
+        };
+        match expression.kind {
+            ExpressionKind::Call(arguments) => {
+                if statement.otherwise.is_some() {
+                    return self.emitter.error(statement.span, ErrorKind::CALL_ELSE);
+                }
+                self.begin_call(at, expression.span, arguments, false)
+            }
+            _ => self.emitter.begin_method(at, statement, false),
+        }
+    }
+
+    /// Works out the arguments of a call, and then the call.
+    pub fn begin_call(
+        &mut self,
+        at: ExpressionAt,
+        span: Span,
+        arguments: Range,
+        wants_value: bool,
+    ) {
+        let word = self.emitter.word(span);
+        let Some(position) = self.emitter.program.function_named(self.emitter.tree, word) else {
+            let near = self.emitter.near_function(word);
+            return self
+                .emitter
+                .error_about(span, ErrorKind::NO_FUNCTION, About::near(near));
+        };
+        let Some(function) = self.emitter.program.functions.get(position).copied() else {
+            return self.emitter.skip();
+        };
+        if self.is_running(position) {
+            return self.emitter.error(span, ErrorKind::RECURSION);
+        }
+        if !self.emitter.takes(function, span, arguments) {
+            return;
+        }
+        if wants_value && !function.gives_number {
+            return self.emitter.error(span, ErrorKind::NO_RESULT);
+        }
+        let here = self.emitter.code.span;
+        self.emitter
+            .then(&[Task::Call(position, at, wants_value), Task::At(here)]);
+        self.emitter.begin_arguments(function, arguments)
+    }
+
+    /// Whether a function is being compiled.
+    fn is_running(&self, position: usize) -> bool {
+        for construct in self.constructs.as_slice() {
+            if let ConstructKind::Function { function, .. } = construct.kind {
+                if function == position {
+                    return true;
+                }
+            }
+        }
+        false
+    }
+
+    /// Begins a function whose arguments are worked out.
+    pub fn call(&mut self, position: usize, at: ExpressionAt, wants_value: bool) {
+        let Some(function) = self.emitter.program.functions.get(position).copied() else {
+            return self.emitter.skip();
+        };
+        let (names, base) = (self.emitter.names.len(), self.emitter.names.base);
+        let held = self.emitter.hold_temporaries();
+        self.emitter.bind_parameters(function, at);
+        self.emitter.names.base = names;
+        let result = match function.gives_number {
+            true => Some(self.emitter.code.literal_held(0)),
+            false => None,
+        };
+        self.emitter.leave_flat();
+        self.push_construct(ConstructKind::Function {
+            result,
+            function: position,
+            base,
+            names,
+            wants_value,
+            held,
+        });
+        self.start_function(function)
+    }
+
+    fn start_function(&mut self, function: Function) {
+        self.start_running();
+        self.emitter
+            .then(&[Task::Block(function.body), Task::EndCall])
+    }
+
+    /// Ends a function.
+    pub fn end_call(&mut self) {
+        let Some(
+            Construct {
+                kind: ConstructKind::Function {
+                    result,
+                    function,
+                    base,
+                    names,
+                    wants_value,
+                    held,
+                },
+                running,
+                ..
+            },
+        ) = self.constructs.last().copied()
+        else {
+            return self.emitter.skip();
+        };
+        if self.restart_running() {
+            return self.restart_function(function);
+        }
+        let _ = self.constructs.pop();
+        self.end_scope(names);
+        self.emitter.names.base = base;
+        if let Some(running) = running {
+            self.emitter.code.usage.release(running);
+        }
+        self.emitter.keep_temporaries(&held);
+        if let Some(result) = result {
+            self.emitter.end_result(result, wants_value);
+        }
+    }
+
+    fn restart_function(&mut self, function: usize) {
+        match self.emitter.program.functions.get(function).copied() {
+            Some(function) => self.start_function(function),
+            None => self.emitter.skip(),
+        }
+    }
+}

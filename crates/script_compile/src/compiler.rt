@@ -1,0 +1,475 @@
+//! The compiler: its state, and the loop that does one task after the other.
+
+use crate::entry::{Failure, Wrong};
+use crate::nests::{Deferred, KeptName, Nest, NestKind};
+use client_code::TypeTable;
+use script_code::{
+    Code, Compiled, Error, ErrorClass, ErrorKind, Linked, Meaning, NOWHERE, Problem, Program,
+    Register, Trouble, WarningKind, append, link,
+};
+use script_syntax::{Span, Statement, StatementKind, Tree};
+use script_values::{Emitter, EmitterMark, Loop, Sequence, Task};
+use std::alloc::Global;
+
+/// How many tasks one program may take. The largest client takes far fewer.
+const MOST_TASKS: usize = 4_000_000;
+
+/// The longest code that is written before the compiler gives up.
+const MOST_EMITTED: usize = 65_536;
+
+/// How far a compilation is. Going back to it needs no copy.
+#[derive(Clone, Copy)]
+pub struct Mark {
+    pub emitter: EmitterMark,
+    pub constructs: usize,
+    choices: usize,
+    statements: usize,
+    pub nests: usize,
+    pub deferred: usize,
+    pub kept: usize,
+}
+
+/// What a statement may be in.
+#[derive(Clone, Copy)]
+pub enum ConstructKind {
+    Main,
+    Loop(Loop),
+    Function {
+        /// The function's number, if it gives one.
+        result: Option<Register>,
+        function: usize,
+        /// The first visible name outside.
+        base: usize,
+        /// The position where the names of its parameters begin.
+        names: usize,
+        /// Whether its number is used.
+        wants_value: bool,
+        /// The registers that are held during the call.
+        held: [bool; 16],
+    },
+}
+
+/// A loop, a function or the whole program.
+#[derive(Clone, Copy)]
+pub struct Construct {
+    pub kind: ConstructKind,
+    pub mark: Mark,
+    /// 1 until a statement leaves what follows it.
+    pub running: Option<Register>,
+    pub wants_running: bool,
+    /// How many statements leave what follows them in it.
+    pub exits: usize,
+    /// How many statements leave it, or a loop around it.
+    pub breaks: usize,
+    /// The registers to forget before it.
+    pub forgets: [bool; 16],
+}
+
+/// A statement that can be compiled in another way if its parts are too deep.
+#[derive(Clone, Copy)]
+pub struct Choice {
+    mark: Mark,
+    statement: Statement,
+}
+
+/// A statement that is being compiled.
+#[derive(Clone, Copy)]
+struct StatementMark {
+    mark: Mark,
+    statement: Statement,
+}
+
+/// A name which was seen, with whether it is used anywhere.
+#[derive(Clone, Copy)]
+struct Seen {
+    span: Span,
+    is_used: bool,
+}
+
+#[derive(Drop)]
+pub struct Compiler<'t> {
+    pub emitter: Emitter<'t>,
+    pub constructs: Vec<Construct>,
+    /// The statements that a guarded sequence left.
+    pub rest: Option<Sequence>,
+    pub nests: Vec<Nest>,
+    pub deferred: Vec<Deferred>,
+    pub kept: Vec<KeptName>,
+    choices: Vec<Choice>,
+    statements: Vec<StatementMark>,
+    seen: Vec<Seen>,
+}
+
+impl<'t> Compiler<'t> {
+    pub fn new(alloc: Global, tree: &'t Tree<'t>, program: Program, code: Code) -> Self {
+        Compiler {
+            emitter: Emitter::new(alloc, tree, program, code),
+            constructs: Vec::new(alloc),
+            rest: None,
+            nests: Vec::new(alloc),
+            deferred: Vec::new(alloc),
+            kept: Vec::new(alloc),
+            choices: Vec::new(alloc),
+            statements: Vec::new(alloc),
+            seen: Vec::new(alloc),
+        }
+    }
+}
+
+impl<'t> Compiler<'t> {
+    /// The client with these parts, or why there is none.
+    pub fn finish(self, linked: Linked) -> Result<Compiled, Failure> {
+        if self.has_failed() {
+            return Err(self.into_failure());
+        }
+        Ok(self.into_compiled(linked))
+    }
+
+    /// The client with these parts. Its warnings are in the order of the text.
+    fn into_compiled(self, linked: Linked) -> Compiled {
+        let Compiler { emitter, .. } = self;
+        let Emitter { code, warnings, .. } = emitter;
+        let Code { constants, .. } = code;
+        let mut warnings = warnings;
+        warnings.sort_unstable_by_key(|warning| warning.span.start);
+        linked.into_compiled(constants, warnings)
+    }
+
+    /// Why the program isn't compiled. The errors are in the order of the text.
+    pub fn into_failure(self) -> Failure {
+        let Compiler { emitter, .. } = self;
+        let Emitter {
+            program,
+            code,
+            errors,
+            alive,
+            ..
+        } = emitter;
+        if code.trouble.is_out_of_memory {
+            return Failure::Memory;
+        }
+        let Program { types, .. } = program;
+        let mut errors = errors;
+        errors.sort_unstable_by_key(|error| error.span.start);
+        Failure::Errors(Wrong {
+            errors,
+            types,
+            alive,
+        })
+    }
+
+    /// Whether an error was found, or memory was refused.
+    pub fn has_failed(&self) -> bool {
+        self.emitter.code.trouble.is_out_of_memory || !self.emitter.errors.is_empty()
+    }
+
+    /// The parts of the client, for the types of an image. An error is reported.
+    pub fn link(&mut self, image: &TypeTable) -> Linked {
+        let mut trouble = Trouble::NONE;
+        let emitter = &self.emitter;
+        let types = &emitter.program.types;
+        let linked = link(emitter.alloc, &emitter.code, types, image, &mut trouble);
+        if let Some(Problem::Error(error)) = trouble.take() {
+            self.emitter.report(error);
+        }
+        if trouble.is_out_of_memory {
+            self.emitter.code.trouble.is_out_of_memory = true;
+        }
+        linked
+    }
+
+    /// Reads the program's declarations, and compiles its statements.
+    pub fn run(&mut self) {
+        self.emitter.declare();
+        self.do_tasks();
+        self.warn_unused()
+    }
+
+    fn do_tasks(&mut self) {
+        self.begin_main();
+        for _ in 0..MOST_TASKS {
+            let Some(task) = self.emitter.tasks.pop() else {
+                return;
+            };
+            self.perform(task);
+            if self.emitter.code.trouble.is_set() {
+                self.recover();
+            }
+            if self.emitter.code.instructions.len() > MOST_EMITTED
+                || self.emitter.code.trouble.is_out_of_memory
+            {
+                break;
+            }
+        }
+        self.emitter.report(Error::at(NOWHERE, ErrorKind::TOO_LONG));
+    }
+
+    /// Continues after a task that failed.
+    fn recover(&mut self) {
+        match self.emitter.code.trouble.take() {
+            Some(Problem::Error(error)) if error.kind.is_limit() => self.avoid_limit(error),
+            Some(Problem::Error(error)) => {
+                self.emitter.report(error);
+                self.skip_statement();
+            }
+            _ => self.skip_statement(),
+        }
+    }
+
+    /// After a statement that passes a limit: lists what is alive there, and if it is too deep,
+    /// continues in another way.
+    fn avoid_limit(&mut self, error: Error) {
+        let is_first = self.emitter.errors.is_empty();
+        if is_first {
+            self.list_alive(error.kind.class);
+        }
+        if error.kind.class == ErrorClass::Depth && self.avoid_depth() {
+            if is_first {
+                self.emitter.alive.clear();
+            }
+            return;
+        }
+        self.emitter.report(error);
+        self.skip_statement();
+    }
+
+    /// Compiles a statement around this one in another way, or puts this one off. Returns false if
+    /// neither is possible.
+    fn avoid_depth(&mut self) -> bool {
+        let found = match self.choices.pop() {
+            Some(choice) => {
+                self.flatten(choice);
+                true
+            }
+            None => self.defer_statement(),
+        };
+        found && self.emitter.code.trouble.take().is_none()
+    }
+
+    /// Compiles a statement again, so that fewer parts are open.
+    fn flatten(&mut self, choice: Choice) {
+        self.go_back(&choice.mark);
+        self.emitter
+            .then(&[Task::SetFlat(false), Task::EndStatement]);
+        self.begin_nest(NestKind::Statement(choice.statement))
+    }
+
+    /// Lists the names which have a register, or the parts that are open, if there are too many.
+    fn list_alive(&mut self, class: ErrorClass) {
+        match class {
+            ErrorClass::Registers => self.emitter.list_names(),
+            ErrorClass::Depth => self.emitter.list_parts(),
+            _ => {}
+        }
+    }
+
+    /// After an error in a statement, compiles the blocks in it for their own errors. The name which
+    /// the statement gives is unknown in them, and after it.
+    fn skip_statement(&mut self) {
+        let Some(StatementMark { mark, statement }) = self.statements.pop() else {
+            self.emitter.tasks.clear();
+            return;
+        };
+        self.go_back(&mark);
+        if let Some(part) = statement.otherwise {
+            self.emitter.then(&[Task::Block(part.block)]);
+        }
+        let names = self.emitter.names.len();
+        let Some(block) = statement.body else {
+            return match statement.kind {
+                StatementKind::Let { name, .. } => self.emitter.bind(name, Meaning::Unknown),
+                _ => {}
+            };
+        };
+        self.emitter.then(&[Task::Body(block, names, true)]);
+        self.bind_unknown(statement)
+    }
+
+    /// Binds the names of a statement with an error.
+    fn bind_unknown(&mut self, statement: Statement) {
+        match statement.kind {
+            StatementKind::Let { name, .. } | StatementKind::IfLet { name, .. } => {
+                self.emitter.bind(name, Meaning::Unknown)
+            }
+            StatementKind::For { key, name, .. } => {
+                if let Some(key) = key {
+                    self.emitter.bind(key, Meaning::Unknown);
+                }
+                self.emitter.bind(name, Meaning::Unknown)
+            }
+            StatementKind::Use(held) => {
+                let tree = self.emitter.tree;
+                for held in tree.held(held) {
+                    if let Some(name) = held.name {
+                        self.emitter.bind(name, Meaning::Unknown);
+                    }
+                }
+            }
+            _ => {}
+        }
+    }
+
+    pub fn mark(&self) -> Mark {
+        Mark {
+            emitter: self.emitter.mark(),
+            constructs: self.constructs.len(),
+            choices: self.choices.len(),
+            statements: self.statements.len(),
+            nests: self.nests.len(),
+            deferred: self.deferred.len(),
+            kept: self.kept.len(),
+        }
+    }
+
+    /// Forgets what was compiled since a mark.
+    pub fn go_back(&mut self, mark: &Mark) {
+        self.emitter.go_back(&mark.emitter);
+        self.constructs.truncate(mark.constructs);
+        self.choices.truncate(mark.choices);
+        self.statements.truncate(mark.statements);
+        self.nests.truncate(mark.nests);
+        self.deferred.truncate(mark.deferred);
+        self.kept.truncate(mark.kept);
+    }
+
+    // Statements
+
+    /// How many statements are being compiled, each in the one before.
+    pub fn statement_count(&self) -> usize {
+        self.statements.len()
+    }
+
+    /// The position where a statement that is being compiled began.
+    pub fn statement_mark(&self, at: usize) -> Option<Mark> {
+        Some(self.statements.get(at)?.mark)
+    }
+
+    pub fn begin_statement(&mut self, statement: Statement) {
+        let mark = self.mark();
+        append(
+            &mut self.statements,
+            StatementMark { mark, statement },
+            &mut self.emitter.code.trouble,
+        );
+        self.emitter.code.span = statement.span;
+        if !self.emitter.is_flat && has_choice(statement.kind) {
+            return self.begin_choice(statement);
+        }
+        self.emitter
+            .then(&[Task::Perform(statement), Task::EndStatement])
+    }
+
+    fn begin_choice(&mut self, statement: Statement) {
+        let choice = Choice {
+            mark: self.mark(),
+            statement,
+        };
+        append(&mut self.choices, choice, &mut self.emitter.code.trouble);
+        self.emitter.then(&[
+            Task::Perform(statement),
+            Task::EndChoice,
+            Task::EndStatement,
+        ])
+    }
+
+    pub fn end_choice(&mut self) {
+        let _ = self.choices.pop();
+    }
+
+    pub fn end_statement(&mut self) {
+        let _ = self.statements.pop();
+        self.emitter.code.usage.tidy();
+    }
+
+    // Names
+
+    /// Ends the names from a position on.
+    pub fn end_scope(&mut self, first: usize) {
+        for _ in first..self.emitter.names.len() {
+            let Some(name) = self.emitter.names.pop() else {
+                break;
+            };
+            if let Meaning::Owner { register, .. } = name.meaning {
+                if self.emitter.code.owns(register) {
+                    self.emitter.code.drop_owner(register);
+                }
+            }
+            if let Some(register) = name.meaning.register() {
+                self.emitter.code.usage.release(register);
+            }
+            if !matches!(name.meaning, Meaning::Hidden(_) | Meaning::Unknown) {
+                self.see(name.span, name.is_used);
+            }
+        }
+    }
+
+    fn see(&mut self, span: Span, is_used: bool) {
+        for at in 0..self.seen.len() {
+            if let Some(seen) = self.seen.get_mut(at) {
+                if seen.span.start == span.start {
+                    seen.is_used = seen.is_used || is_used;
+                    return;
+                }
+            }
+        }
+        append(
+            &mut self.seen,
+            Seen { span, is_used },
+            &mut self.emitter.code.trouble,
+        )
+    }
+
+    /// Warns of each name which isn't used.
+    fn warn_unused(&mut self) {
+        for at in 0..self.seen.len() {
+            if let Some(seen) = self.seen.get(at).copied() {
+                self.warn_seen(seen);
+            }
+        }
+        for at in 0..self.emitter.program.objects.len() {
+            if let Some(object) = self.emitter.program.object(at) {
+                if !object.is_used {
+                    self.emitter.warn(object.name, WarningKind::Unused);
+                }
+            }
+        }
+    }
+}
+
+impl Compiler<'_> {
+    /// Warns of a name which isn't used, unless it begins with `_`.
+    fn warn_seen(&mut self, seen: Seen) {
+        if !seen.is_used && !self.emitter.word(seen.span).starts_with(b"_") {
+            self.emitter.warn(seen.span, WarningKind::Unused);
+        }
+    }
+}
+
+impl Mark {
+    /// How many names had ended.
+    pub fn ended(&self) -> usize {
+        self.emitter.code.ended
+    }
+
+    /// How many parts were open.
+    pub fn open_parts(&self) -> usize {
+        self.emitter.code.parts
+    }
+
+    /// Whether a register was held.
+    pub fn is_held(&self, register: Register) -> bool {
+        self.emitter.code.usage.is_held(register)
+    }
+}
+
+/// Whether a statement can be compiled so that fewer parts are open.
+fn has_choice(kind: StatementKind) -> bool {
+    matches!(
+        kind,
+        StatementKind::Let { .. }
+            | StatementKind::IfLet { .. }
+            | StatementKind::If(_)
+            | StatementKind::Use(_)
+            | StatementKind::For { .. }
+    )
+}

@@ -1,0 +1,79 @@
+//! Which function does which task, and which begins which statement.
+
+use crate::compiler::Compiler;
+use crate::nests::NestKind;
+use script_syntax::{Statement, StatementKind};
+use script_values::Task;
+
+impl Compiler<'_> {
+    pub fn perform(&mut self, task: Task) {
+        if self.emitter.perform(task) {
+            return;
+        }
+        match task {
+            Task::Block(block) => self.begin_block(block),
+            Task::Body(block, names, is_inside) => self.begin_body(block, names, is_inside),
+            Task::Sequence(sequence) => self.next_statement(sequence),
+            Task::AfterStatement(rest, exits, deferred) => {
+                self.after_statement(rest, exits, deferred)
+            }
+            other => self.perform_end(other),
+        }
+    }
+
+    /// Tasks that begin or end statements.
+    fn perform_end(&mut self, task: Task) {
+        match task {
+            Task::EndGuard(span) => self.end_guard(span),
+            Task::EndScope(names) => self.end_scope(names),
+            Task::Statement(statement) => self.begin_statement(statement),
+            Task::Perform(statement) => self.perform_statement(statement),
+            Task::EndStatement => {
+                self.end_statement();
+            }
+            Task::EndChoice => {
+                self.end_choice();
+            }
+            other => self.perform_nest(other),
+        }
+    }
+
+    fn perform_nest(&mut self, task: Task) {
+        match task {
+            Task::EndNest => self.end_nest(),
+            Task::DropNest => {
+                self.drop_nest();
+            }
+            Task::BeginDeferred(at) => self.begin_nest(NestKind::Deferred(at)),
+            Task::RunDeferred(at) => self.run_deferred(at),
+            Task::EndDeferred(at, names) => self.end_deferred(at, names),
+            other => self.perform_construct(other),
+        }
+    }
+
+    /// Tasks with loops, functions and the program.
+    fn perform_construct(&mut self, task: Task) {
+        match task {
+            Task::BeginCall(at, span, arguments) => self.begin_call(at, span, arguments, true),
+            Task::Call(function, at, wants_value) => self.call(function, at, wants_value),
+            Task::EndCall => self.end_call(),
+            Task::BeginLoop(found) => self.begin_loop(found),
+            Task::EndLoop => self.end_loop(),
+            Task::NextTurn(found) => self.next_turn(found),
+            Task::EndMain => self.end_main(),
+            Task::DoReturn(statement) => self.leave(statement),
+            _ => {}
+        }
+    }
+
+    fn perform_statement(&mut self, statement: Statement) {
+        match statement.kind {
+            StatementKind::Break | StatementKind::Continue | StatementKind::Stop => {
+                self.leave(statement)
+            }
+            StatementKind::Return(_) => self.begin_return(statement),
+            StatementKind::Call(at) => self.begin_call_statement(statement, at),
+            _ => self.emitter.begin(statement),
+        }
+    }
+}

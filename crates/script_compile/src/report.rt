@@ -1,0 +1,238 @@
+//! From a program's text to a client, or to lines that tell what is wrong.
+
+use crate::entry::{Failure, Wrong, compile};
+use client_code::TypeTable;
+use script_code::{Compiled, Error, Types, Warning};
+use script_syntax::{Span, Tree, parse};
+use std::alloc::{AllocError, Global};
+use std::fmt::Write;
+use std::str;
+
+/// The client of a program.
+#[derive(Drop)]
+pub struct Client {
+    /// The client's file.
+    pub bytes: Vec<u8>,
+    /// A line for each warning, with the line of the program and a hint.
+    pub warnings: String,
+}
+
+/// Why a program has no client.
+#[derive(Drop)]
+pub enum Refusal {
+    /// All errors of the program: a line for each, with the line of the program and a hint.
+    Errors(String),
+    /// The host is out of memory.
+    Memory,
+}
+
+impl From<AllocError> for Refusal {
+    fn from(_: AllocError) -> Refusal {
+        Refusal::Memory
+    }
+}
+
+/// Compiles the program in a file with this name, for the types of an image.
+pub fn client_of(
+    alloc: Global,
+    file: &str,
+    text: &[u8],
+    image: &TypeTable,
+) -> Result<Client, Refusal> {
+    match parse(alloc, text) {
+        Ok(tree) => client_of_tree(alloc, file, text, &tree, image),
+        Err(script_syntax::Failure::Memory) => Err(Refusal::Memory),
+        Err(script_syntax::Failure::Errors(errors)) => {
+            Err(refused(syntax_lines(alloc, file, text, errors.as_slice())))
+        }
+    }
+}
+
+fn client_of_tree(
+    alloc: Global,
+    file: &str,
+    text: &[u8],
+    tree: &Tree<'_>,
+    image: &TypeTable,
+) -> Result<Client, Refusal> {
+    match compile(alloc, tree, image) {
+        Ok(compiled) => accepted(told_client(alloc, file, text, &compiled)),
+        Err(Failure::Errors(wrong)) => Err(refused(error_lines(alloc, file, text, &wrong))),
+        Err(Failure::Memory) => Err(Refusal::Memory),
+    }
+}
+
+/// The client, with its warnings.
+fn told_client(
+    alloc: Global,
+    file: &str,
+    text: &[u8],
+    compiled: &Compiled,
+) -> Result<Client, AllocError> {
+    let warnings = warning_lines(alloc, file, text, compiled.warnings.as_slice())?;
+    Ok(Client {
+        bytes: compiled.file(alloc)?,
+        warnings,
+    })
+}
+
+fn accepted(client: Result<Client, AllocError>) -> Result<Client, Refusal> {
+    match client {
+        Ok(client) => Ok(client),
+        Err(_) => Err(Refusal::Memory),
+    }
+}
+
+/// The refusal with these lines.
+fn refused(lines: Result<String, AllocError>) -> Refusal {
+    match lines {
+        Ok(lines) => Refusal::Errors(lines),
+        Err(_) => Refusal::Memory,
+    }
+}
+
+fn syntax_lines(
+    alloc: Global,
+    file: &str,
+    text: &[u8],
+    errors: &[script_syntax::Error],
+) -> Result<String, AllocError> {
+    let mut lines = String::new(alloc);
+    for error in errors {
+        write_syntax_error(&mut lines, file, text, error)?;
+    }
+    Ok(lines)
+}
+
+fn write_syntax_error(
+    lines: &mut String,
+    file: &str,
+    text: &[u8],
+    error: &script_syntax::Error,
+) -> Result<(), AllocError> {
+    write_position(lines, file, error.span)?;
+    let message = error.message(text);
+    write!(lines, "error: {message}\n")?;
+    write_source(lines, text, error.span)?;
+    match error.hint() {
+        Some(hint) => write!(lines, "hint: {hint}\n"),
+        None => Ok(()),
+    }
+}
+
+fn error_lines(
+    alloc: Global,
+    file: &str,
+    text: &[u8],
+    wrong: &Wrong,
+) -> Result<String, AllocError> {
+    let mut lines = String::new(alloc);
+    for error in wrong.errors.as_slice() {
+        write_error(&mut lines, file, text, error, &wrong.types)?;
+    }
+    Ok(lines)
+}
+
+fn write_error(
+    lines: &mut String,
+    file: &str,
+    text: &[u8],
+    error: &Error,
+    types: &Types,
+) -> Result<(), AllocError> {
+    write_position(lines, file, error.span)?;
+    let message = error.message(text, types);
+    write!(lines, "error: {message}\n")?;
+    write_source(lines, text, error.span)?;
+    match error.hint(text, types) {
+        Some(hint) => write!(lines, "hint: {hint}\n"),
+        None => Ok(()),
+    }
+}
+
+fn warning_lines(
+    alloc: Global,
+    file: &str,
+    text: &[u8],
+    warnings: &[Warning],
+) -> Result<String, AllocError> {
+    let mut lines = String::new(alloc);
+    for warning in warnings {
+        write_warning(&mut lines, file, text, warning)?;
+    }
+    Ok(lines)
+}
+
+fn write_warning(
+    lines: &mut String,
+    file: &str,
+    text: &[u8],
+    warning: &Warning,
+) -> Result<(), AllocError> {
+    write_position(lines, file, warning.span)?;
+    let message = warning.message(text);
+    write!(lines, "warning: {message}\n")?;
+    write_source(lines, text, warning.span)?;
+    match warning.hint() {
+        Some(hint) => write!(lines, "hint: {hint}\n"),
+        None => Ok(()),
+    }
+}
+
+/// Writes where a span begins.
+fn write_position(lines: &mut String, file: &str, span: Span) -> Result<(), AllocError> {
+    let (line, column) = (span.line, span.column);
+    write!(lines, "{file}:{line}:{column}: ")
+}
+
+/// Writes the line of a text that a span begins in, and carets under the span's part of it.
+fn write_source(lines: &mut String, text: &[u8], span: Span) -> Result<(), AllocError> {
+    let before = before_span(text, span);
+    let after = after_span(text, span);
+    let line = text.get(span.start.saturating_sub(before.len())..);
+    let len = before.len().saturating_add(after.len());
+    let line = line.unwrap_or_default().get(..len).unwrap_or_default();
+    let (Ok(line), Ok(before)) = (str::from_utf8(line), str::from_utf8(before)) else {
+        return Ok(());
+    };
+    write!(lines, "{line}\n")?;
+    write_carets(lines, before, width_of(after, span))
+}
+
+/// Writes a line with this many carets, under what follows the first part of a line.
+fn write_carets(lines: &mut String, before: &str, count: usize) -> Result<(), AllocError> {
+    for character in before.chars() {
+        lines.push(if character == '\t' { '\t' } else { ' ' })?;
+    }
+    for _ in 0..count {
+        lines.push('^')?;
+    }
+    lines.push('\n')
+}
+
+/// The bytes of a span's line before the span.
+fn before_span(text: &[u8], span: Span) -> &[u8] {
+    let before = text.get(..span.start).unwrap_or_default();
+    match before.iter().rposition(|byte| *byte == b'\n') {
+        Some(at) => before.get(at.saturating_add(1)..).unwrap_or_default(),
+        None => before,
+    }
+}
+
+/// The bytes of a span's line from the span on.
+fn after_span(text: &[u8], span: Span) -> &[u8] {
+    let after = text.get(span.start..).unwrap_or_default();
+    match after.iter().position(|byte| *byte == b'\n') {
+        Some(at) => after.get(..at).unwrap_or_default(),
+        None => after,
+    }
+}
+
+/// How many characters of a line a span has, at least 1. The line is given from the span on.
+fn width_of(after: &[u8], span: Span) -> usize {
+    let len = span.end.saturating_sub(span.start).min(after.len());
+    match str::from_utf8(after.get(..len).unwrap_or_default()) {
+        Ok(words) => words.chars().count().max(1),
+        Err(_) => 1,
+    }
+}

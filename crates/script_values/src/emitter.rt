@@ -1,0 +1,306 @@
+//! The state of what is emitted: the code so far, the names, and the tasks that wait.
+
+use crate::task::{Task, Value};
+use script_code::{
+    About, Code, CodeMark, Error, ErrorKind, Folded, MOST_DEPTH, Meaning, Names, Place, Problem,
+    Program, Register, TypeAt, Warning, WarningKind, Way, append,
+};
+use script_syntax::{ExpressionAt, Span, Tree, Type};
+use std::alloc::Global;
+
+/// How much is emitted. Going back to it needs no copy.
+#[derive(Clone, Copy)]
+pub struct EmitterMark {
+    pub code: CodeMark,
+    pub names: usize,
+    base: usize,
+    ways: usize,
+    values: usize,
+    places: usize,
+    tasks: usize,
+    is_flat: bool,
+}
+
+/// Emits the code of numbers, places and texts.
+#[derive(Drop)]
+pub struct Emitter<'t> {
+    pub alloc: Global,
+    pub tree: &'t Tree<'t>,
+    pub program: Program,
+    pub code: Code,
+    pub names: Names,
+    pub ways: Vec<Way>,
+    pub values: Vec<Value>,
+    pub places: Vec<Place>,
+    /// Bytes to print or to add next.
+    pub text: Vec<u8>,
+    /// Whether the next byte to print, a line end, is printed already.
+    pub skips_newline: bool,
+    /// Whether places are looked up again at each use, so that no part stays open.
+    pub is_flat: bool,
+    pub errors: Vec<Error>,
+    /// What is alive, or open, at an error about a limit.
+    pub alive: Vec<Span>,
+    pub warnings: Vec<Warning>,
+    pub tasks: Vec<Task>,
+}
+
+impl<'t> Emitter<'t> {
+    pub fn new(alloc: Global, tree: &'t Tree<'t>, program: Program, code: Code) -> Self {
+        Emitter {
+            alloc,
+            tree,
+            program,
+            code,
+            names: Names::new(alloc),
+            ways: Vec::new(alloc),
+            values: Vec::new(alloc),
+            places: Vec::new(alloc),
+            text: Vec::new(alloc),
+            skips_newline: false,
+            is_flat: false,
+            errors: Vec::new(alloc),
+            alive: Vec::new(alloc),
+            warnings: Vec::new(alloc),
+            tasks: Vec::new(alloc),
+        }
+    }
+}
+
+impl<'t> Emitter<'t> {
+    /// The bytes of a name.
+    pub fn word(&self, span: Span) -> &'t [u8] {
+        self.tree.word(span)
+    }
+
+    /// The span of an expression.
+    pub fn span_of(&self, at: ExpressionAt) -> Span {
+        match self.tree.expression(at) {
+            Some(expression) => expression.span,
+            None => self.code.span,
+        }
+    }
+
+    pub fn mark(&self) -> EmitterMark {
+        EmitterMark {
+            code: self.code.mark(),
+            names: self.names.len(),
+            base: self.names.base,
+            ways: self.ways.len(),
+            values: self.values.len(),
+            places: self.places.len(),
+            tasks: self.tasks.len(),
+            is_flat: self.is_flat,
+        }
+    }
+
+    /// Forgets what was emitted since a mark.
+    pub fn go_back(&mut self, mark: &EmitterMark) {
+        self.code.go_back(&mark.code);
+        self.names.truncate(mark.names);
+        self.names.base = mark.base;
+        self.ways.truncate(mark.ways);
+        self.values.truncate(mark.values);
+        self.places.truncate(mark.places);
+        self.tasks.truncate(mark.tasks);
+        self.is_flat = mark.is_flat;
+        self.text.clear();
+        self.skips_newline = false;
+    }
+
+    /// Does these tasks next, the first one first.
+    pub fn then(&mut self, tasks: &[Task]) {
+        for task in tasks.iter().rev() {
+            append(&mut self.tasks, *task, &mut self.code.trouble);
+        }
+    }
+
+    /// Works out a place next, and then does this task.
+    pub fn then_place(&mut self, at: ExpressionAt, task: Task) {
+        self.then(&[Task::Place(at, 0), task])
+    }
+
+    /// Works out a number in a register of its own next, and then does this task.
+    pub fn then_fresh(&mut self, at: ExpressionAt, task: Task) {
+        self.then(&[Task::Evaluate(at, None), Task::Fresh, task])
+    }
+
+    /// Takes the next task away.
+    pub fn pop_task(&mut self) -> Option<Task> {
+        self.tasks.pop()
+    }
+
+    // Errors and warnings
+
+    /// Notes an error in the statement that is being compiled.
+    pub fn error(&mut self, span: Span, kind: ErrorKind) {
+        self.code
+            .trouble
+            .note(Problem::Error(Error::at(span, kind)));
+    }
+
+    /// Notes an error at the beginning of the statement that is being compiled.
+    pub fn error_here(&mut self, kind: ErrorKind) {
+        let span = self.code.span;
+        self.error(span, kind)
+    }
+
+    /// Notes an error at an expression.
+    pub fn error_at(&mut self, at: ExpressionAt, kind: ErrorKind) {
+        let span = self.span_of(at);
+        self.error(span, kind)
+    }
+
+    pub fn error_about(&mut self, span: Span, kind: ErrorKind, about: About) {
+        self.fail(Error { span, kind, about });
+    }
+
+    /// Notes an error about a type.
+    pub fn type_error(&mut self, span: Span, kind: ErrorKind, value_type: TypeAt) {
+        self.error_about(span, kind, About::of_type(value_type))
+    }
+
+    /// Notes this error.
+    pub fn fail(&mut self, error: Error) {
+        self.code.trouble.note(Problem::Error(error));
+    }
+
+    /// Notes that the statement needs something with an error.
+    pub fn skip(&mut self) {
+        self.code.trouble.note(Problem::Known);
+    }
+
+    /// Lists the names which have a register, for an error.
+    pub fn list_names(&mut self) {
+        for at in 0..self.names.len() {
+            if let Some(name) = self.names.get(at) {
+                if name.is_visible() && name.meaning.register().is_some() {
+                    append(&mut self.alive, name.span, &mut self.code.trouble);
+                }
+            }
+        }
+    }
+
+    /// Lists the parts that are open, for an error.
+    pub fn list_parts(&mut self) {
+        for at in 0..self.code.part_count() {
+            let span = self.code.part_span(at);
+            append(&mut self.alive, span, &mut self.code.trouble);
+        }
+    }
+
+    /// Adds an error. One about a limit counts only if it is the first.
+    pub fn report(&mut self, error: Error) {
+        if error.kind.is_limit() && !self.errors.is_empty() {
+            return;
+        }
+        for found in self.errors.as_slice() {
+            if found.span.start == error.span.start {
+                return;
+            }
+        }
+        append(&mut self.errors, error, &mut self.code.trouble)
+    }
+
+    pub fn warn(&mut self, span: Span, kind: WarningKind) {
+        for found in self.warnings.as_slice() {
+            if found.span.start == span.start && found.kind == kind {
+                return;
+            }
+        }
+        append(
+            &mut self.warnings,
+            Warning { span, kind },
+            &mut self.code.trouble,
+        )
+    }
+
+    // Names and values
+
+    /// Binds a name to a meaning, and keeps its register.
+    pub fn bind(&mut self, span: Span, meaning: Meaning) {
+        if self.code.trouble.is_set() {
+            return;
+        }
+        if let Some(register) = meaning.register() {
+            self.code.usage.hold(register);
+        }
+        self.names.push(span, meaning, &mut self.code.trouble);
+    }
+
+    /// The name which was bound last is used.
+    pub fn use_last_name(&mut self) {
+        let last = self.names.len().saturating_sub(1);
+        self.names.use_name(last);
+    }
+
+    /// The type that is written. `Err` with the name of a struct that isn't declared.
+    pub fn written_type(&mut self, written: Type) -> Result<TypeAt, Span> {
+        let tree = self.tree;
+        self.program
+            .types
+            .written(tree, written, &mut self.code.trouble)
+    }
+
+    pub fn fold(&self, at: ExpressionAt) -> Result<Folded, Error> {
+        self.program.fold(self.tree, &self.names, at, MOST_DEPTH)
+    }
+
+    /// The number that an expression always is.
+    pub fn known_number(&self, at: ExpressionAt) -> Option<i64> {
+        match self.fold(at) {
+            Ok(Folded::Number(value)) => Some(value),
+            _ => None,
+        }
+    }
+
+    /// The number that an expression has to be when the program is compiled.
+    pub fn needed_number(&mut self, at: ExpressionAt) -> i64 {
+        match self.fold(at) {
+            Ok(Folded::Number(value)) => return value,
+            Ok(Folded::Text(_)) => self.error_at(at, ErrorKind::NOT_CONSTANT),
+            Err(error) => self.code.trouble.note(Problem::Error(error)),
+        }
+        0
+    }
+
+    pub fn push_value(&mut self, register: Register, is_own: bool) {
+        append(
+            &mut self.values,
+            Value { register, is_own },
+            &mut self.code.trouble,
+        )
+    }
+
+    /// The number that was worked out last.
+    pub fn pop_value(&mut self) -> Value {
+        match self.values.pop() {
+            Some(value) => value,
+            None => {
+                self.skip();
+                Value::NONE
+            }
+        }
+    }
+
+    pub fn push_place(&mut self, place: Place) {
+        append(&mut self.places, place, &mut self.code.trouble)
+    }
+
+    /// The place that was worked out last.
+    pub fn pop_place(&mut self) -> Place {
+        match self.places.pop() {
+            Some(place) => place,
+            None => {
+                self.skip();
+                Place::NONE
+            }
+        }
+    }
+
+    pub fn free_value(&mut self, value: Value) {
+        if value.is_own {
+            self.code.usage.free(value.register);
+        }
+    }
+}

@@ -1,0 +1,799 @@
+//! `let`, `if let` and `use`.
+
+use crate::emitter::Emitter;
+use crate::task::{Handler, Task, Walk};
+use crate::walks::Removed;
+use client_code::Operation;
+use script_code::{
+    About, ErrorKind, Key, Known, MOST_DIGITS, Meaning, NOWHERE, Operand, Place, Register, Root,
+    Shape, TypeAt, WayKind,
+};
+use script_syntax::{
+    Block, Container, ExpressionAt, Held, Range, Span, Statement, StatementKind, Type, Value,
+    ValueKind,
+};
+
+/// The code of an item that isn't there.
+const NO_ITEM: i64 = 6;
+
+/// No statements.
+const NOTHING: Block = Block {
+    statements: Range { first: 0, end: 0 },
+    following: Range { first: 0, end: 0 },
+    leaves: false,
+};
+
+/// The block of a statement.
+pub fn body_of(statement: &Statement) -> Block {
+    statement.body.unwrap_or(NOTHING)
+}
+
+/// The task for a statement's block, whose names begin here.
+fn body_task(statement: &Statement, names: usize) -> Task {
+    Task::Body(body_of(statement), names, shows_names(statement))
+}
+
+/// Whether what follows a statement's block sees the name which the statement gives.
+fn shows_names(statement: &Statement) -> bool {
+    matches!(
+        statement.kind,
+        StatementKind::Let { .. } | StatementKind::Use(_)
+    )
+}
+
+/// An item that is pushed, and gets a name.
+#[derive(Clone, Copy)]
+struct Push {
+    name: Span,
+    is_back: bool,
+    item: TypeAt,
+    /// The register of its number, if it has one.
+    pushed: Option<Register>,
+}
+
+impl Emitter<'_> {
+    /// The name and the value of a `let` or an `if let`.
+    fn named_value(&self, statement: &Statement) -> Option<(Span, Value)> {
+        match statement.kind {
+            StatementKind::Let { name, value } | StatementKind::IfLet { name, value } => {
+                Some((name, value))
+            }
+            _ => None,
+        }
+    }
+
+    pub fn begin_let(&mut self, statement: Statement) {
+        let Some((name, value)) = self.named_value(&statement) else {
+            return self.skip();
+        };
+        if self.is_object_name(name) {
+            return self.error(name, ErrorKind::OBJECT_NAME);
+        }
+        if statement.body.is_some() {
+            return self.begin_lookup(statement);
+        }
+        let ValueKind::Expression(at) = value.kind else {
+            return self.skip();
+        };
+        if !self.is_place(at) || self.is_variable(at) {
+            return self.then_fresh(at, Task::BindNumber(name, MOST_DIGITS));
+        }
+        self.then_place(at, Task::DoLet(name, at))
+    }
+
+    fn is_object_name(&self, name: Span) -> bool {
+        let word = self.word(name);
+        let found = self.program.object_named(self.tree, word);
+        found.is_some()
+    }
+
+    /// Whether an expression is the name of a number.
+    pub fn is_variable(&self, at: ExpressionAt) -> bool {
+        match self.plain_name(at) {
+            Some(name) => match self.names.get(name) {
+                Some(name) => matches!(name.meaning, Meaning::Number { .. }),
+                None => false,
+            },
+            None => false,
+        }
+    }
+
+    /// Gives the last place a name, or its number if it is one.
+    pub fn finish_let(&mut self, name: Span, at: ExpressionAt) {
+        let place = self.pop_place();
+        if self.is_number(&place) {
+            let digits = if place.is_length { 10 } else { MOST_DIGITS };
+            self.push_place(place);
+            return self.then(&[
+                Task::Load(at, None),
+                Task::Fresh,
+                Task::BindNumber(name, digits),
+            ]);
+        }
+        if self.fallible(&place) > 0 {
+            return self.error_at(at, ErrorKind::LET_ABSENT);
+        }
+        if self.openers(&place) > 0 {
+            return self.bind_place(name, place);
+        }
+        let walk = self.walk(&place, false);
+        self.bind_walk(name, &place, &walk);
+        self.close_walk(&walk)
+    }
+
+    /// Gives the last number a name.
+    pub fn bind_number(&mut self, name: Span, digits: usize) {
+        let value = self.pop_value();
+        self.bind(name, Meaning::short_number(value.register, digits))
+    }
+
+    /// Gives a place a name which has no register.
+    pub fn bind_place(&mut self, name: Span, place: Place) {
+        self.bind(
+            name,
+            Meaning::Place {
+                place,
+                register: None,
+                stamp: 0,
+            },
+        )
+    }
+
+    /// Gives a place a name, with the register at the end of a walk.
+    pub fn bind_walk(&mut self, name: Span, place: &Place, walk: &Walk) {
+        let stamp = self.code.registers.get(walk.register).stamp;
+        let mut place = *place;
+        place.is_frozen = place.is_frozen || walk.is_frozen;
+        self.bind(
+            name,
+            Meaning::Place {
+                place,
+                register: Some(walk.register),
+                stamp,
+            },
+        )
+    }
+
+    /// What is done if the lookup of a statement fails.
+    fn lookup_handler(&mut self, statement: Statement) -> Handler {
+        let Some((_, value)) = self.named_value(&statement) else {
+            self.skip();
+            return Handler::Nothing;
+        };
+        let is_lookup = matches!(value.kind, ValueKind::Expression(_));
+        if is_lookup && matches!(statement.kind, StatementKind::IfLet { .. }) {
+            return self.own_handler(statement);
+        }
+        self.handler(statement)
+    }
+
+    pub fn begin_lookup(&mut self, statement: Statement) {
+        let Some((name, value)) = self.named_value(&statement) else {
+            return self.skip();
+        };
+        match value.kind {
+            ValueKind::New(written) => self.make_new(statement, name, written),
+            ValueKind::Take(at) => self.then_place(at, Task::DoTake(statement)),
+            ValueKind::Expression(at) => self.look_up(statement, value.span, at),
+        }
+    }
+
+    fn look_up(&mut self, statement: Statement, span: Span, at: ExpressionAt) {
+        if self.is_method(at) {
+            return self.begin_method(at, statement, true);
+        }
+        if !self.is_place(at) {
+            return self.error(span, ErrorKind::NOT_LOOKUP);
+        }
+        self.then_place(at, Task::DoLookup(statement))
+    }
+
+    fn make_new(&mut self, statement: Statement, name: Span, written: Type) {
+        let value_type = match self.written_type(written) {
+            Ok(found) => found,
+            Err(span) => {
+                let word = self.word(span);
+                let near = self.near_struct(word);
+                return self.error_about(span, ErrorKind::NO_TYPE, About::near(near));
+            }
+        };
+        let handler = self.lookup_handler(statement);
+        let register = self.code.take();
+        self.code.open(
+            Operation::New,
+            [register.0, 0, 0],
+            Operand::Type(value_type),
+            register,
+            Known::Owner(value_type),
+        );
+        self.code.usage.hold(register);
+        self.own(statement, name, register, value_type, handler)
+    }
+
+    /// Binds an owned object, whose part was just opened, and does the rest.
+    fn own(
+        &mut self,
+        statement: Statement,
+        name: Span,
+        register: Register,
+        value_type: TypeAt,
+        handler: Handler,
+    ) {
+        let names = self.names.len();
+        self.bind(
+            name,
+            Meaning::Owner {
+                register,
+                value_type,
+            },
+        );
+        self.then(&[Task::Release(register)]);
+        self.then_else(handler, register);
+        self.then(&[body_task(&statement, names)])
+    }
+
+    /// Ends the innermost part next. If it fails, the handler runs, with the code in a register.
+    fn then_else(&mut self, handler: Handler, code: Register) {
+        self.then(&[Task::Else, Task::Handle(handler, code), Task::EndPart])
+    }
+
+    pub fn take_owned(&mut self, statement: Statement) {
+        let Some((name, _)) = self.named_value(&statement) else {
+            return self.skip();
+        };
+        let place = self.pop_place();
+        let shape = self.program.types.shape(place.value_type);
+        let Shape::Of(Container::Own, content) = shape else {
+            return self.type_error(place.span, ErrorKind::TAKE_OF, place.value_type);
+        };
+        self.check_changeable(&place);
+        let handler = self.lookup_handler(statement);
+        let code = self.code_register(&place, handler);
+        let register = self.code.take_held();
+        let walk = self.walk(&place, false);
+        self.remove(&place, Removed::Below, statement.span);
+        self.code.open_change(
+            Operation::Take,
+            [register.0, walk.register.0, 0],
+            register,
+            Known::Owner(content),
+        );
+        self.then(&[Task::CloseWalk(walk, handler, code)]);
+        self.own(statement, name, register, content, handler)
+    }
+
+    /// `if let` at the last place.
+    pub fn finish_lookup(&mut self, statement: Statement) {
+        let Some((name, _)) = self.named_value(&statement) else {
+            return self.skip();
+        };
+        let mut place = self.pop_place();
+        let content = self.program.types.shape(place.value_type).content();
+        let is_box = content.is_some() && !place.is_length;
+        let is_known = matches!(place.root, Root::Number(_)) || self.fallible(&place) == 0;
+        if is_known && !is_box {
+            return self.error(place.span, ErrorKind::NEVER_ABSENT);
+        }
+        let handler = self.lookup_handler(statement);
+        if self.is_number(&place) {
+            return self.look_up_number(statement, name, &place, handler);
+        }
+        if is_box {
+            self.enter_one(&mut place);
+        }
+        self.look_up_place(statement, name, place, handler)
+    }
+
+    fn look_up_place(&mut self, statement: Statement, name: Span, place: Place, handler: Handler) {
+        let mut place = place;
+        let names = self.names.len();
+        self.keep_keys(&mut place, &[body_of(&statement)]);
+        if self.is_flat {
+            return self.look_up_flat(statement, name, &place, handler, names);
+        }
+        let code = self.code_register(&place, handler);
+        let walk = self.walk(&place, false);
+        self.bind_walk(name, &place, &walk);
+        self.then(&[
+            body_task(&statement, names),
+            Task::CloseWalk(walk, handler, code),
+        ])
+    }
+
+    /// Goes into an `own` or a `shared`.
+    fn enter_one(&mut self, place: &mut Place) {
+        match self.program.types.shape(place.value_type) {
+            Shape::Of(Container::Own, to) => {
+                self.add_way(place, WayKind::Content { is_shared: false }, to)
+            }
+            Shape::Of(Container::Shared, to) => {
+                self.add_way(place, WayKind::Content { is_shared: true }, to)
+            }
+            _ => {}
+        }
+    }
+
+    fn look_up_number(
+        &mut self,
+        statement: Statement,
+        name: Span,
+        place: &Place,
+        handler: Handler,
+    ) {
+        let digits = self.most_digits(place);
+        if self.openers(place) == 1 && !self.is_flat {
+            return self.look_up_open(statement, name, place, handler, digits);
+        }
+        let names = self.names.len();
+        let register = self.code.literal_held(0);
+        let code = self.code.literal_held(0);
+        let walk = self.walk(place, false);
+        self.read_number(register, walk.register, place);
+        self.close_noting(&walk, code);
+        self.then(&[Task::Release(register)]);
+        let bind = Task::BindSet(name, register, digits);
+        self.branch_on(code, handler, bind, body_task(&statement, names))
+    }
+
+    /// The most digits of the number at a place.
+    fn most_digits(&self, place: &Place) -> usize {
+        match self.last_way(place) {
+            _ if place.is_length => 10,
+            Some(WayKind::Byte(_)) => 3,
+            _ => MOST_DIGITS,
+        }
+    }
+
+    /// Looks a number up whose walk opens one part, and does the body in that.
+    fn look_up_open(
+        &mut self,
+        statement: Statement,
+        name: Span,
+        place: &Place,
+        handler: Handler,
+        digits: usize,
+    ) {
+        let names = self.names.len();
+        let walk = self.walk(place, false);
+        let register = self.own_register(&walk);
+        self.read_number(register, walk.register, place);
+        self.bind(name, Meaning::short_number(register, digits));
+        self.then(&[
+            body_task(&statement, names),
+            Task::CloseWalk(walk, handler, None),
+        ])
+    }
+
+    /// The register at the end of a walk if it belongs to the walk alone, or else a new one.
+    fn own_register(&mut self, walk: &Walk) -> Register {
+        if walk.is_own() {
+            return walk.register;
+        }
+        self.code.take()
+    }
+
+    /// Runs the handler if a register isn't 0. Otherwise releases it, binds a name, and does the body.
+    fn branch_on(&mut self, code: Register, handler: Handler, bind: Task, body: Task) {
+        self.code.open_if(code);
+        self.then(&[
+            Task::Handle(handler, code),
+            Task::Else,
+            Task::Release(code),
+            bind,
+            body,
+            Task::EndPart,
+        ])
+    }
+
+    /// Looks a place up, and again at each use, so that no part of it stays open.
+    fn look_up_flat(
+        &mut self,
+        statement: Statement,
+        name: Span,
+        place: &Place,
+        handler: Handler,
+        names: usize,
+    ) {
+        let code = self.code.literal_held(0);
+        let walk = self.walk(place, false);
+        self.close_noting(&walk, code);
+        let bind = Task::BindPlace(name, *place);
+        self.branch_on(code, handler, bind, body_task(&statement, names))
+    }
+
+    // use
+
+    pub fn begin_use(&mut self, statement: Statement, held: Range) {
+        let tree = self.tree;
+        let places = tree.held(held);
+        let Some(first) = places.first() else {
+            return;
+        };
+        let handler = self.handler(statement);
+        if self.is_flat {
+            let code = self.code.literal_held(0);
+            let hold = Task::HoldFlat(statement, 0, code);
+            return self.then_place(first.place, hold);
+        }
+        if handler.is_nothing() || places.len() < 2 {
+            let hold = Task::Hold(statement, 0, None);
+            return self.then_place(first.place, hold);
+        }
+        let code = self.code.literal_held(0);
+        self.then(&[Task::HandleIf(code, handler), Task::Release(code)]);
+        self.then_place(first.place, Task::Hold(statement, 0, Some(code)))
+    }
+
+    /// The place of a `use` with this number, and the number of the places.
+    fn held_place(&self, statement: &Statement, number: usize) -> Option<(Held, usize)> {
+        let StatementKind::Use(held) = statement.kind else {
+            return None;
+        };
+        let places = self.tree.held(held);
+        Some((places.get(number).copied()?, places.len()))
+    }
+
+    /// The name of a place that a `use` holds.
+    fn held_name(&mut self, held: &Held, place: &Place) -> Span {
+        let span = self.span_of(held.place);
+        if matches!(place.root, Root::Number(_)) {
+            self.error(span, ErrorKind::NEEDLESS_USE);
+            return NOWHERE;
+        }
+        match (held.name, self.steps_of(held.place, 0)) {
+            (Some(name), _) => name,
+            (None, Some(steps)) if steps.is_empty() => span,
+            (None, _) => {
+                self.error(span, ErrorKind::UNNAMED_USE);
+                NOWHERE
+            }
+        }
+    }
+
+    /// The tasks after the place of a `use` with this number.
+    fn after_held(
+        &self,
+        statement: &Statement,
+        number: usize,
+        code: Option<Register>,
+        names: usize,
+    ) -> [Task; 2] {
+        let next = number.saturating_add(1);
+        match self.held_place(statement, next) {
+            Some((held, _)) => [
+                Task::Place(held.place, 0),
+                Task::Hold(*statement, next, code),
+            ],
+            None => [
+                Task::Body(body_of(statement), names, true),
+                Task::EndScope(names),
+            ],
+        }
+    }
+
+    /// Keeps the last place for a `use`, and continues with the next one.
+    pub fn hold(&mut self, statement: Statement, number: usize, code: Option<Register>) {
+        let mut place = self.pop_place();
+        let Some((held, _)) = self.held_place(&statement, number) else {
+            return;
+        };
+        let name = self.held_name(&held, &place);
+        let names = self.names.len();
+        self.keep_keys(&mut place, &[body_of(&statement)]);
+        let close = self.hold_place(statement, name, &place, code);
+        self.then(&[Task::EndScope(names), close]);
+        let inner = self.names.len();
+        let [first, second] = self.after_held(&statement, number, code, inner);
+        self.then(&[first, second])
+    }
+
+    /// Finds or makes a place, and binds it. Returns the task that ends its parts.
+    fn hold_place(
+        &mut self,
+        statement: Statement,
+        name: Span,
+        place: &Place,
+        code: Option<Register>,
+    ) -> Task {
+        let handler = match code {
+            Some(_) => Handler::Nothing,
+            None => self.handler(statement),
+        };
+        let own_code = self.code_register(place, handler);
+        let walk = self.walk(place, true);
+        self.bind_walk(name, place, &walk);
+        self.use_last_name();
+        match code {
+            Some(code) => Task::CloseNoting(walk, code),
+            None => Task::CloseWalk(walk, handler, own_code),
+        }
+    }
+
+    /// Finds or makes the last place, and binds it without holding it.
+    pub fn hold_flat(&mut self, statement: Statement, number: usize, code: Register) {
+        let mut place = self.pop_place();
+        let Some((held, _)) = self.held_place(&statement, number) else {
+            return;
+        };
+        let name = self.held_name(&held, &place);
+        let names = self.names.len();
+        self.keep_keys(&mut place, &[body_of(&statement)]);
+        let walk = self.walk(&place, true);
+        self.close_noting(&walk, code);
+        self.bind_place(name, place);
+        self.use_last_name();
+        self.then(&[Task::EndScope(names)]);
+        self.after_flat(statement, number, code)
+    }
+
+    /// Continues with the next place of a `use`, or its body.
+    fn after_flat(&mut self, statement: Statement, number: usize, code: Register) {
+        let next = number.saturating_add(1);
+        match self.held_place(&statement, next) {
+            Some((held, _)) => {
+                let hold = Task::HoldFlat(statement, next, code);
+                self.then_place(held.place, hold)
+            }
+            None => self.do_flat(statement, code),
+        }
+    }
+
+    /// The body of a `use` whose places were found or made, unless a register has a code.
+    fn do_flat(&mut self, statement: Statement, code: Register) {
+        let handler = self.handler(statement);
+        self.code.open_if(code);
+        let inner = self.names.len();
+        self.then(&[
+            Task::Handle(handler, code),
+            Task::Else,
+            Task::Release(code),
+            Task::Body(body_of(&statement), inner, true),
+            Task::EndPart,
+        ])
+    }
+
+    // push and pop with a name
+
+    /// `if let` with a pushed item, at the last place. Its value was worked out, if it has one.
+    pub fn push_named(&mut self, statement: Statement, has_value: bool) {
+        let Some((name, value)) = self.named_value(&statement) else {
+            return self.skip();
+        };
+        let mut place = self.pop_place();
+        let is_back = self.method_word(value) == b"push".as_slice();
+        self.enter_content(&mut place);
+        let item = self.check_method(value, &place, has_value);
+        if place.value_type == TypeAt::TEXT {
+            return self.error(value.span, ErrorKind::PUSHED_BYTE_NAME);
+        }
+        self.check_changeable(&place);
+        if !is_back {
+            self.remove(&place, Removed::Below, statement.span);
+        }
+        let push = Push {
+            name,
+            is_back,
+            item,
+            pushed: self.hold_pushed(has_value),
+        };
+        let handler = self.lookup_handler(statement);
+        let names = self.names.len();
+        self.keep_keys(&mut place, &[body_of(&statement)]);
+        self.bind_pushed(statement, &push, &place, handler, names)
+    }
+
+    /// Pushes an item, binds it, and does the body. The names begin at a position.
+    fn bind_pushed(
+        &mut self,
+        statement: Statement,
+        push: &Push,
+        place: &Place,
+        handler: Handler,
+        names: usize,
+    ) {
+        let code = self.code_register(place, handler);
+        let index = self.code.literal_held(0);
+        let walk = self.walk(place, true);
+        let register = self.push_at(push, &walk, index);
+        self.bind_item(push.name, register, index, place, push.item);
+        let release = match push.pushed {
+            Some(pushed) => Task::Release(pushed),
+            None => Task::At(statement.span),
+        };
+        self.then(&[
+            Task::Release(register),
+            Task::CloseWalk(walk, handler, code),
+        ]);
+        self.then(&[
+            body_task(&statement, names),
+            Task::Else,
+            Task::Release(index),
+            release,
+            Task::Handle(handler, register),
+            Task::EndPart,
+        ])
+    }
+
+    /// Opens the part of an item that is pushed at the end of a walk, and returns its register. The
+    /// other register is set to its index.
+    fn push_at(&mut self, push: &Push, walk: &Walk, index: Register) -> Register {
+        if push.is_back {
+            self.code.read(Operation::Len, index, walk.register);
+        }
+        let register = self.own_register(walk);
+        self.code.usage.hold(register);
+        self.open_push(push.is_back, register, walk, push.item);
+        if let Some(pushed) = push.pushed {
+            self.code.act(Operation::Store, register, pushed.0);
+        }
+        register
+    }
+
+    /// Keeps the register of the number to push, if there is one.
+    pub fn hold_pushed(&mut self, has_value: bool) -> Option<Register> {
+        if !has_value {
+            return None;
+        }
+        let register = self.pop_value().register;
+        self.code.usage.hold(register);
+        Some(register)
+    }
+
+    /// Opens the part of a pushed item.
+    pub fn open_push(&mut self, is_back: bool, register: Register, walk: &Walk, item: TypeAt) {
+        let operation = if is_back {
+            Operation::PushBack
+        } else {
+            Operation::PushFront
+        };
+        let known = Known::Reference {
+            class: self.code.class_of(walk.register),
+            value_type: item,
+            is_frozen: false,
+        };
+        let registers = [register.0, walk.register.0, 0];
+        self.code.open_change(operation, registers, register, known)
+    }
+
+    /// Binds a pushed item.
+    fn bind_item(
+        &mut self,
+        name: Span,
+        register: Register,
+        index: Register,
+        place: &Place,
+        item: TypeAt,
+    ) {
+        if item == TypeAt::INT {
+            self.code.read(Operation::Load, register, register);
+            return self.bind(name, Meaning::number(register));
+        }
+        let kind = WayKind::Item(Key::Register(index));
+        let place = self.longer_place(place, kind, item);
+        let stamp = self.code.registers.get(register).stamp;
+        self.bind(
+            name,
+            Meaning::Place {
+                place,
+                register: Some(register),
+                stamp,
+            },
+        )
+    }
+
+    /// `if let` with a popped item, at the last place.
+    pub fn pop_named(&mut self, statement: Statement) {
+        let Some((name, value)) = self.named_value(&statement) else {
+            return self.skip();
+        };
+        let mut place = self.pop_place();
+        let is_back = self.method_word(value) == b"pop".as_slice();
+        self.enter_content(&mut place);
+        let item = self.check_method(value, &place, false);
+        if item != TypeAt::INT {
+            return self.type_error(value.span, ErrorKind::ITEM_GOES, item);
+        }
+        self.check_changeable(&place);
+        let handler = self.lookup_handler(statement);
+        self.bind_popped(statement, name, is_back, &place, handler)
+    }
+
+    /// Removes an item, binds its number, and does the body.
+    fn bind_popped(
+        &mut self,
+        statement: Statement,
+        name: Span,
+        is_back: bool,
+        place: &Place,
+        handler: Handler,
+    ) {
+        let register = self.code.literal_held(0);
+        let code = self.code.literal_held(NO_ITEM);
+        self.remove(place, Removed::Below, statement.span);
+        let walk = self.walk(place, false);
+        self.take_item(is_back, register, code, &walk, place.value_type);
+        self.close_noting(&walk, code);
+        let names = self.names.len();
+        self.then(&[Task::Release(register)]);
+        let bind = Task::BindSet(name, register, MOST_DIGITS);
+        self.branch_on(code, handler, bind, body_task(&statement, names))
+    }
+
+    /// Reads the first or the last item, and removes it.
+    fn take_item(
+        &mut self,
+        is_back: bool,
+        register: Register,
+        code: Register,
+        walk: &Walk,
+        value_type: TypeAt,
+    ) {
+        let from = walk.register;
+        let index = self.code.literal_held(0);
+        if is_back {
+            self.code.read(Operation::Len, index, from);
+            self.code.add(index, -1);
+        }
+        self.load_item(register, from, index, value_type);
+        self.code.number(code, 0);
+        self.code.close();
+        let operation = if is_back {
+            Operation::PopBack
+        } else {
+            Operation::PopFront
+        };
+        self.code
+            .open_change(operation, [index.0, from.0, 0], index, Known::Number);
+        self.code.close();
+        self.code.usage.release(index);
+    }
+
+    /// Opens the part that has an item, and reads its number.
+    fn load_item(&mut self, to: Register, from: Register, index: Register, value_type: TypeAt) {
+        let is_text = value_type == TypeAt::TEXT;
+        let known = if is_text {
+            Known::Number
+        } else {
+            Known::Reference {
+                class: self.code.class_of(from),
+                value_type: TypeAt::INT,
+                is_frozen: false,
+            }
+        };
+        let registers = [to.0, from.0, index.0];
+        self.code
+            .open(Operation::At, registers, Operand::Plain(0), to, known);
+        if !is_text {
+            self.code.read(Operation::Load, to, to);
+        }
+    }
+
+    fn check_method(&mut self, value: Value, place: &Place, has_value: bool) -> TypeAt {
+        match value.kind {
+            ValueKind::Expression(at) => self.method_item(at, place, has_value),
+            _ => {
+                self.skip();
+                TypeAt::INT
+            }
+        }
+    }
+}
+
+impl<'t> Emitter<'t> {
+    /// The name of the method in a value.
+    fn method_word(&mut self, value: Value) -> &'t [u8] {
+        match value.kind {
+            ValueKind::Expression(at) => match self.last_step(at) {
+                Some(step) => self.word(step.span),
+                None => {
+                    self.skip();
+                    b""
+                }
+            },
+            _ => {
+                self.skip();
+                b""
+            }
+        }
+    }
+}

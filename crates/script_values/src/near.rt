@@ -1,0 +1,104 @@
+//! Which name may be meant by one that isn't there.
+
+use crate::emitter::Emitter;
+use script_code::StructAt;
+use script_syntax::Span;
+
+impl Emitter<'_> {
+    /// The local name, object, constant or function that may be meant by a word.
+    pub fn near_name(&self, word: &[u8]) -> Option<Span> {
+        for name in self.names.inner() {
+            if name.is_visible() && is_near(self.word(name.span), word) {
+                return Some(name.span);
+            }
+        }
+        for object in self.program.objects.as_slice() {
+            if is_near(self.word(object.name), word) {
+                return Some(object.name);
+            }
+        }
+        for value in self.program.values.as_slice() {
+            if is_near(self.word(value.name), word) {
+                return Some(value.name);
+            }
+        }
+        self.near_function(word)
+    }
+
+    /// The function that may be meant by a word.
+    pub fn near_function(&self, word: &[u8]) -> Option<Span> {
+        for function in self.program.functions.as_slice() {
+            if is_near(self.word(function.name), word) {
+                return Some(function.name);
+            }
+        }
+        None
+    }
+
+    /// The struct that may be meant by a word.
+    pub fn near_struct(&self, word: &[u8]) -> Option<Span> {
+        for found in self.program.types.structs.as_slice() {
+            if is_near(self.word(found.name), word) {
+                return Some(found.name);
+            }
+        }
+        None
+    }
+
+    /// The field of a struct that may be meant by a word.
+    pub fn near_field(&self, found: StructAt, word: &[u8]) -> Option<Span> {
+        for member in self.program.types.fields(found) {
+            if is_near(self.word(member.name), word) {
+                return Some(member.name);
+            }
+        }
+        None
+    }
+}
+
+/// Whether two words differ in one letter, in one that is missing, or in two that are swapped, and
+/// have two others in common.
+fn is_near(one: &[u8], two: &[u8]) -> bool {
+    let first = shared_start(one, two);
+    let one = one.get(first..).unwrap_or_default();
+    let two = two.get(first..).unwrap_or_default();
+    let last = shared_end(one, two);
+    if first.saturating_add(last) < 2 {
+        return false;
+    }
+    match (without_end(one, last), without_end(two, last)) {
+        ([], [_]) | ([_], []) | ([_], [_]) => true,
+        ([a, b], [c, d]) => a == d && b == c,
+        _ => false,
+    }
+}
+
+/// A word without its last bytes.
+fn without_end(word: &[u8], count: usize) -> &[u8] {
+    word.get(..word.len().saturating_sub(count))
+        .unwrap_or_default()
+}
+
+/// How many bytes two words have in common at their start.
+fn shared_start(one: &[u8], two: &[u8]) -> usize {
+    let mut count = 0usize;
+    for (left, right) in one.iter().zip(two) {
+        if *left != *right {
+            break;
+        }
+        count = count.saturating_add(1);
+    }
+    count
+}
+
+/// How many bytes two words have in common at their end.
+fn shared_end(one: &[u8], two: &[u8]) -> usize {
+    let mut count = 0usize;
+    for (left, right) in one.iter().rev().zip(two.iter().rev()) {
+        if *left != *right {
+            break;
+        }
+        count = count.saturating_add(1);
+    }
+    count
+}

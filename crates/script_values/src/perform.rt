@@ -1,0 +1,229 @@
+//! Which function does which task that needs no more than the emitter.
+
+use crate::emitter::Emitter;
+use crate::task::{Output, Task};
+use script_code::Meaning;
+use script_syntax::{Statement, StatementKind};
+
+impl Emitter<'_> {
+    /// Does a task. Returns false for a task that the emitter can't do.
+    pub fn perform(&mut self, task: Task) -> bool {
+        match task {
+            Task::Else => self.code.begin_else(),
+            Task::ElseOne(register) => {
+                self.code.begin_else();
+                self.code.number(register, 1)
+            }
+            Task::EndPart => self.code.end_part(),
+            Task::Release(register) => {
+                self.code.usage.release(register);
+            }
+            Task::Keep(register) => {
+                self.code.usage.keep(register);
+            }
+            other => return self.perform_walk(other),
+        }
+        true
+    }
+
+    fn perform_walk(&mut self, task: Task) -> bool {
+        match task {
+            Task::CloseWalk(walk, handler, code) => self.close_handling(&walk, handler, code),
+            Task::CloseNoting(walk, code) => self.close_noting(&walk, code),
+            Task::Handle(handler, code) => self.handle(handler, code),
+            Task::HandleIf(code, handler) => self.handle_if(code, handler),
+            other => return self.perform_number(other),
+        }
+        true
+    }
+
+    fn perform_number(&mut self, task: Task) -> bool {
+        match task {
+            Task::Evaluate(at, into) => self.evaluate(at, into),
+            Task::Push(value) => self.push_value(value.register, value.is_own),
+            Task::Fresh => self.fresh(),
+            Task::Unary(operator, into) => self.unary(operator, into),
+            Task::Binary(operator, into) => self.binary(operator, into),
+            other => return self.perform_operator(other),
+        }
+        true
+    }
+
+    fn perform_operator(&mut self, task: Task) -> bool {
+        match task {
+            Task::Logic(operator, right) => self.logic(operator, right),
+            Task::LogicEnd(operator, register) => self.logic_end(operator, register),
+            Task::Truth(register) => self.truth(register),
+            Task::Divide(operator, known) => self.divide(operator, known),
+            Task::Compare(at, operator, bytes) => self.compare(at, operator, bytes),
+            other => return self.perform_place(other),
+        }
+        true
+    }
+
+    fn perform_place(&mut self, task: Task) -> bool {
+        match task {
+            Task::Place(at, dropped) => self.begin_place(at, dropped),
+            Task::Resolve(at, dropped) => self.resolve(at, dropped),
+            Task::Load(at, into) => self.load(at, into),
+            Task::MoveTo(register) => self.move_to(register),
+            Task::Default(at, register) => self.load_or(at, register),
+            other => return self.perform_output(other),
+        }
+        true
+    }
+
+    fn perform_output(&mut self, task: Task) -> bool {
+        match task {
+            Task::Items(items, output) => self.write_items(items, output),
+            Task::Digits(at, output) => self.write_number(at, &output),
+            Task::Padded(width, output) => self.write_padded(width, &output),
+            Task::WriteText(at) => self.write_text(at),
+            Task::WriteLine => self.write_line(),
+            other => return self.perform_text(other),
+        }
+        true
+    }
+
+    fn perform_text(&mut self, task: Task) -> bool {
+        match task {
+            Task::DoText(statement) => self.begin_text(statement),
+            Task::TextCopy(target, at) => self.copy_text(&target, at),
+            Task::TextEnd(walk, target, handler) => self.end_text(&walk, &target, handler),
+            other => return self.perform_name(other),
+        }
+        true
+    }
+
+    /// Tasks that give names.
+    fn perform_name(&mut self, task: Task) -> bool {
+        match task {
+            Task::DoLet(name, at) => self.finish_let(name, at),
+            Task::BindNumber(name, digits) => self.bind_number(name, digits),
+            Task::BindSet(name, register, digits) => {
+                self.bind(name, Meaning::short_number(register, digits))
+            }
+            Task::BindPlace(name, place) => self.bind_place(name, place),
+            other => return self.perform_lookup(other),
+        }
+        true
+    }
+
+    fn perform_lookup(&mut self, task: Task) -> bool {
+        match task {
+            Task::DoLookup(statement) => self.finish_lookup(statement),
+            Task::DoTake(statement) => self.take_owned(statement),
+            Task::DoPush(statement, has_value) => self.push_named(statement, has_value),
+            Task::DoPop(statement) => self.pop_named(statement),
+            Task::Hold(statement, number, code) => self.hold(statement, number, code),
+            Task::HoldFlat(statement, number, code) => self.hold_flat(statement, number, code),
+            other => return self.perform_change(other),
+        }
+        true
+    }
+
+    /// Tasks that change places.
+    fn perform_change(&mut self, task: Task) -> bool {
+        match task {
+            Task::DoSet(statement) => self.set_number(statement),
+            Task::DoPut(statement, owner) => self.put_owned(statement, owner),
+            Task::DoMethod(statement, has_value) => self.do_method(statement, has_value),
+            Task::DoFreeze(statement) => self.freeze(statement),
+            Task::DoShare(statement) => self.share(statement),
+            other => return self.perform_removal(other),
+        }
+        true
+    }
+
+    fn perform_removal(&mut self, task: Task) -> bool {
+        match task {
+            Task::DoDelete(statement) => self.delete_whole(statement),
+            Task::DoDeleteKey(statement) => self.delete_key(statement),
+            Task::DoClear(statement, at) => self.clear(statement, at),
+            Task::DoShrink(at) => self.shrink(at),
+            other => return self.perform_loop(other),
+        }
+        true
+    }
+
+    fn perform_loop(&mut self, task: Task) -> bool {
+        match task {
+            Task::EndInput(go) => self.end_input(go),
+            Task::DoItems(statement) => self.loop_items(statement),
+            Task::DoNumbers(statement) => self.loop_numbers(statement),
+            Task::DoIf(statement) => self.branch(statement),
+            other => return self.perform_setting(other),
+        }
+        true
+    }
+
+    fn perform_setting(&mut self, task: Task) -> bool {
+        match task {
+            Task::SetFlat(is_flat) => {
+                self.is_flat = is_flat;
+            }
+            Task::SetBase(base) => {
+                self.names.base = base;
+            }
+            Task::At(span) => {
+                self.code.span = span;
+            }
+            _ => return false,
+        }
+        true
+    }
+
+    /// Begins a statement that neither leaves nor calls a function.
+    pub fn begin(&mut self, statement: Statement) {
+        match statement.kind {
+            StatementKind::Let { .. } => self.begin_let(statement),
+            StatementKind::IfLet { .. } => self.begin_lookup(statement),
+            StatementKind::Use(held) => self.begin_use(statement, held),
+            StatementKind::For { .. } => self.begin_for(statement),
+            StatementKind::While { .. } => self.begin_while(statement),
+            _ => self.begin_plain(statement),
+        }
+    }
+
+    /// Statements that choose, print or change.
+    fn begin_plain(&mut self, statement: Statement) {
+        match statement.kind {
+            StatementKind::If(condition) => {
+                self.then(&[Task::Evaluate(condition, None), Task::DoIf(statement)])
+            }
+            StatementKind::Print {
+                items,
+                ends_line,
+                ..
+            } => self.then(&[Task::Items(items, Output::Printed { ends_line })]),
+            StatementKind::Set { .. } => self.begin_set(statement),
+            StatementKind::Freeze { .. } => self.begin_freeze(statement),
+            StatementKind::Share { .. } => self.begin_share(statement),
+            _ => self.begin_removal(statement),
+        }
+    }
+
+    fn begin_removal(&mut self, statement: Statement) {
+        match statement.kind {
+            StatementKind::Delete(at) => self.begin_delete(statement, at),
+            StatementKind::Clear(at) => self.then_place(at, Task::DoClear(statement, at)),
+            StatementKind::Shrink(at) => self.then_place(at, Task::DoShrink(at)),
+            _ => {}
+        }
+    }
+
+    /// `if`, after its condition.
+    fn branch(&mut self, statement: Statement) {
+        let value = self.pop_value();
+        self.code.open_if(value.register);
+        self.code.usage.tidy();
+        let Some(body) = statement.body else {
+            return self.code.close();
+        };
+        let otherwise = match statement.otherwise {
+            Some(part) => Task::Block(part.block),
+            None => Task::At(statement.span),
+        };
+        self.then(&[Task::Block(body), Task::Else, otherwise, Task::EndPart])
+    }
+}

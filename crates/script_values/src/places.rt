@@ -1,0 +1,547 @@
+//! Places: from their names and steps to a root and a way.
+
+use crate::emitter::Emitter;
+use crate::task::Task;
+use script_code::{
+    About, ErrorKind, Key, Meaning, Object, ObjectKind, Place, Root, Shape, TypeAt, Way, WayKind,
+    append,
+};
+use script_syntax::{Container, ExpressionAt, ExpressionKind, Range, Span, Step, StepKind};
+
+/// A place that is being worked out.
+#[derive(Clone, Copy)]
+struct Resolving {
+    place: Place,
+    /// The position of the next key that was worked out.
+    next_value: usize,
+    /// The name which the place begins with.
+    name: Span,
+}
+
+impl Emitter<'_> {
+    /// The steps of a place without the last `dropped` ones.
+    pub fn steps_of(&self, at: ExpressionAt, dropped: usize) -> Option<Range> {
+        match self.tree.expression(at)?.kind {
+            ExpressionKind::Place(steps) => Some(Range {
+                first: steps.first,
+                end: steps.end.saturating_sub(dropped),
+            }),
+            _ => None,
+        }
+    }
+
+    /// The last step of a place.
+    pub fn last_step(&self, at: ExpressionAt) -> Option<Step> {
+        let steps = self.steps_of(at, 0)?;
+        self.tree.steps(steps).last().copied()
+    }
+
+    /// Whether a place ends in a call of a method.
+    pub fn is_method(&self, at: ExpressionAt) -> bool {
+        match self.last_step(at) {
+            Some(step) => match step.kind {
+                StepKind::Method(_) => self.word(step.span) != b"after".as_slice(),
+                _ => false,
+            },
+            None => false,
+        }
+    }
+
+    /// The local name which an expression is.
+    pub fn plain_name(&self, at: ExpressionAt) -> Option<usize> {
+        let expression = self.tree.expression(at)?;
+        match expression.kind {
+            ExpressionKind::Place(steps) if steps.is_empty() => {
+                let word = self.word(expression.span);
+                self.names.find(self.tree, word)
+            }
+            _ => None,
+        }
+    }
+
+    /// Whether an expression is a place, and not a constant.
+    pub fn is_place(&self, at: ExpressionAt) -> bool {
+        matches!(
+            self.tree.expression(at),
+            Some(expression) if matches!(expression.kind, ExpressionKind::Place(_))
+        ) && self.fold(at).is_err()
+    }
+
+    /// Works out the keys of a place, and then the place.
+    pub fn begin_place(&mut self, at: ExpressionAt, dropped: usize) {
+        self.then(&[Task::Resolve(at, dropped)]);
+        let Some(steps) = self.steps_of(at, dropped) else {
+            return;
+        };
+        let tree = self.tree;
+        for step in tree.steps(steps).iter().rev() {
+            if let Some(key) = self.key_of(step) {
+                if self.known_number(key).is_none() {
+                    self.then(&[Task::Evaluate(key, None)]);
+                }
+            }
+        }
+    }
+
+    /// The expression of a step's key.
+    fn key_of(&self, step: &Step) -> Option<ExpressionAt> {
+        match step.kind {
+            StepKind::Index(key) => Some(key),
+            StepKind::Method(arguments) if self.word(step.span) == b"after".as_slice() => {
+                self.tree.arguments(arguments).first().copied()
+            }
+            _ => None,
+        }
+    }
+
+    /// Pushes a place whose keys are worked out.
+    pub fn resolve(&mut self, at: ExpressionAt, dropped: usize) {
+        let span = self.span_of(at);
+        let Some(steps) = self.steps_of(at, dropped) else {
+            let kind = self.no_place(at);
+            return self.error(span, kind);
+        };
+        let tree = self.tree;
+        let steps = tree.steps(steps);
+        let first_value = self.first_key(steps);
+        let mut resolving = Resolving {
+            place: self.empty_place(span),
+            next_value: first_value,
+            name: span,
+        };
+        let skipped = self.resolve_root(&mut resolving, steps);
+        self.resolve_steps(&mut resolving, steps, skipped);
+        self.values.truncate(first_value);
+        self.push_place(resolving.place)
+    }
+
+    /// The error of an expression that isn't a place.
+    fn no_place(&self, at: ExpressionAt) -> ErrorKind {
+        let Some(expression) = self.tree.expression(at) else {
+            return ErrorKind::PLACE_WANTED;
+        };
+        match expression.kind {
+            ExpressionKind::Call(_) => ErrorKind::CALL_AS_PLACE,
+            _ => ErrorKind::PLACE_WANTED,
+        }
+    }
+
+    fn resolve_steps(&mut self, resolving: &mut Resolving, steps: &[Step], skipped: usize) {
+        for (number, step) in steps.iter().enumerate() {
+            if number >= skipped {
+                let is_last = number.saturating_add(1) == steps.len();
+                self.resolve_step(resolving, step, is_last);
+            }
+        }
+    }
+
+    /// The position of the first key of these steps that was worked out.
+    fn first_key(&self, steps: &[Step]) -> usize {
+        let mut count = 0usize;
+        for step in steps {
+            if let Some(key) = self.key_of(step) {
+                if self.known_number(key).is_none() {
+                    count = count.saturating_add(1);
+                }
+            }
+        }
+        self.values.len().saturating_sub(count)
+    }
+
+    fn empty_place(&self, span: Span) -> Place {
+        Place {
+            first: self.ways.len(),
+            end: self.ways.len(),
+            span,
+            ..Place::NONE
+        }
+    }
+
+    /// Finds what a place begins with. Returns how many steps that takes.
+    fn resolve_root(&mut self, resolving: &mut Resolving, steps: &[Step]) -> usize {
+        let span = resolving.name;
+        let word = self.word(span);
+        if let Some(at) = self.names.find(self.tree, word) {
+            self.names.use_name(at);
+            self.resolve_name(resolving, at, steps);
+            return 0;
+        }
+        if let Some(at) = self.program.object_named(self.tree, word) {
+            return self.resolve_object(resolving, at, steps);
+        }
+        if self.program.value_named(self.tree, word).is_some() {
+            self.error(span, ErrorKind::CONSTANT_AS_PLACE);
+        } else {
+            let about = About::near(self.near_name(word));
+            self.error_about(span, ErrorKind::NO_NAME, about);
+        }
+        0
+    }
+
+    fn resolve_name(&mut self, resolving: &mut Resolving, at: usize, steps: &[Step]) {
+        let span = resolving.name;
+        let Some(name) = self.names.get(at) else {
+            return self.skip();
+        };
+        match name.meaning {
+            Meaning::Number { .. } => {
+                if let Some(step) = steps.first() {
+                    self.error_about(step.span, ErrorKind::NUMBER_HAS_NO_PARTS, About::name(span));
+                    return;
+                }
+                resolving.place.root = Root::Number(at);
+            }
+            Meaning::Owner {
+                register,
+                value_type,
+            } => {
+                if !self.code.owns(register) {
+                    let about = About::number(name.span.line);
+                    return self.error_about(span, ErrorKind::MOVED, about);
+                }
+                resolving.place.root = Root::Owner(at);
+                resolving.place.value_type = value_type;
+            }
+            Meaning::Place { place, .. } => { self.resolve_named(resolving, at, name.id, &place) }
+            Meaning::Hidden(_) | Meaning::Unknown => self.skip(),
+        }
+    }
+
+    /// Begins a place with the one that a name refers to.
+    fn resolve_named(&mut self, resolving: &mut Resolving, at: usize, id: usize, place: &Place) {
+        if let Some(ended) = self.code.where_ended(id) {
+            let about = About::number(ended.line);
+            return self.error_about(resolving.name, ErrorKind::GONE, about);
+        }
+        self.copy_way(resolving, place);
+        resolving.place.via = Some(at);
+    }
+
+    /// Begins a place with the way of another one.
+    fn copy_way(&mut self, resolving: &mut Resolving, place: &Place) {
+        for at in place.first..place.end {
+            if let Some(way) = self.ways.get(at).copied() {
+                self.add_way(&mut resolving.place, way.kind, way.to);
+            }
+        }
+        resolving.place.root = place.root;
+        resolving.place.value_type = place.value_type;
+        resolving.place.is_frozen = place.is_frozen;
+    }
+
+    /// Adds a step to a place, whose steps are the last ones.
+    pub fn add_way(&mut self, place: &mut Place, kind: WayKind, to: TypeAt) {
+        append(&mut self.ways, Way { kind, to }, &mut self.code.trouble);
+        place.end = self.ways.len();
+        place.value_type = to;
+        if let WayKind::Content { is_shared: true } = kind {
+            place.is_frozen = true;
+        }
+    }
+
+    /// A place with one more step, as a place of its own.
+    pub fn longer_place(&mut self, place: &Place, kind: WayKind, to: TypeAt) -> Place {
+        let mut longer = *place;
+        longer.first = self.ways.len();
+        for at in place.first..place.end {
+            if let Some(way) = self.ways.get(at).copied() {
+                self.add_way(&mut longer, way.kind, way.to);
+            }
+        }
+        self.add_way(&mut longer, kind, to);
+        longer
+    }
+
+    fn resolve_object(&mut self, resolving: &mut Resolving, at: usize, steps: &[Step]) -> usize {
+        let Some(object) = self.program.object(at) else {
+            self.skip();
+            return 0;
+        };
+        self.use_object(at);
+        resolving.place.value_type = object.value_type;
+        match object.kind {
+            ObjectKind::Single | ObjectKind::Unique => {
+                resolving.place.root = Root::Object(at);
+                0
+            }
+            ObjectKind::Array(_) | ObjectKind::Family => {
+                self.resolve_element(resolving, at, object, steps)
+            }
+        }
+    }
+
+    pub fn use_object(&mut self, at: usize) {
+        if let Some(object) = self.program.objects.get_mut(at) {
+            object.is_used = true;
+        }
+    }
+
+    fn resolve_element(
+        &mut self,
+        resolving: &mut Resolving,
+        at: usize,
+        object: Object,
+        steps: &[Step],
+    ) -> usize {
+        if let Some(step) = steps.first() {
+            if let StepKind::Index(key) = step.kind {
+                let key = self.take_key(resolving, key);
+                resolving.place.root = Root::Element(at, key);
+                return 1;
+            }
+            if object.kind != ObjectKind::Family && self.word(step.span) == b"len".as_slice() {
+                resolving.place.root = Root::Object(at);
+                resolving.place.value_type = TypeAt::INT;
+                resolving.place.is_length = true;
+                return steps.len();
+            }
+        }
+        let kind = match object.kind {
+            ObjectKind::Family => ErrorKind::FAMILY,
+            _ => ErrorKind::ARRAY,
+        };
+        self.error(resolving.name, kind);
+        0
+    }
+
+    /// The key that an expression is, or that was worked out for it.
+    fn take_key(&mut self, resolving: &mut Resolving, key: ExpressionAt) -> Key {
+        if let Some(value) = self.known_number(key) {
+            return Key::Literal(value);
+        }
+        let value = self.values.get(resolving.next_value).copied();
+        resolving.next_value = resolving.next_value.saturating_add(1);
+        match value {
+            Some(value) => Key::Register(value.register),
+            None => {
+                self.skip();
+                Key::Literal(0)
+            }
+        }
+    }
+
+    /// Goes into an `own` or a `shared`, if the place is one.
+    pub fn enter_content(&mut self, place: &mut Place) {
+        for _ in 0..self.program.types.len() {
+            let Shape::Of(container, content) = self.program.types.shape(place.value_type) else {
+                return;
+            };
+            let is_shared = match container {
+                Container::Own => false,
+                Container::Shared => true,
+                _ => return,
+            };
+            self.add_way(place, WayKind::Content { is_shared }, content);
+        }
+    }
+
+    fn resolve_step(&mut self, resolving: &mut Resolving, step: &Step, is_last: bool) {
+        self.enter_content(&mut resolving.place);
+        match step.kind {
+            StepKind::Index(key) => self.resolve_index(resolving, step.span, key),
+            StepKind::Method(arguments) => {
+                self.resolve_method(resolving, step.span, arguments, is_last)
+            }
+            StepKind::Field => self.resolve_field(resolving, step.span, is_last),
+        }
+    }
+
+    fn resolve_index(&mut self, resolving: &mut Resolving, span: Span, key: ExpressionAt) {
+        let value_type = resolving.place.value_type;
+        let shape = self.program.types.shape(value_type);
+        let Some(item) = shape.item() else {
+            return self.type_error(span, ErrorKind::NO_ITEMS, value_type);
+        };
+        let key = self.take_key(resolving, key);
+        let kind = match shape {
+            Shape::Text => WayKind::Byte(key),
+            _ if shape.is_map() => WayKind::Key(key),
+            _ => WayKind::Item(key),
+        };
+        self.add_way(&mut resolving.place, kind, item)
+    }
+
+    fn resolve_method(
+        &mut self,
+        resolving: &mut Resolving,
+        span: Span,
+        arguments: Range,
+        is_last: bool,
+    ) {
+        let shape = self.program.types.shape(resolving.place.value_type);
+        if !shape.is_map() || self.word(span) != b"after".as_slice() {
+            return self.error(span, ErrorKind::METHOD_AS_VALUE);
+        }
+        if !is_last {
+            return self.error(span, ErrorKind::KEY_HAS_NO_PARTS);
+        }
+        let tree = self.tree;
+        let [key] = tree.arguments(arguments) else {
+            return self.error(span, ErrorKind::AFTER_ARGUMENTS);
+        };
+        let key = self.take_key(resolving, *key);
+        self.add_way(&mut resolving.place, WayKind::NextKey(key), TypeAt::INT)
+    }
+
+    fn resolve_field(&mut self, resolving: &mut Resolving, span: Span, is_last: bool) {
+        let shape = self.program.types.shape(resolving.place.value_type);
+        let word = self.word(span);
+        if shape.is_map() && word == b"first".as_slice() {
+            if !is_last {
+                return self.error(span, ErrorKind::KEY_HAS_NO_PARTS);
+            }
+            return self.add_way(&mut resolving.place, WayKind::FirstKey, TypeAt::INT);
+        }
+        if shape.item().is_some() && word == b"len".as_slice() {
+            if !is_last {
+                return self.error(span, ErrorKind::LENGTH_HAS_NO_PARTS);
+            }
+            resolving.place.is_length = true;
+            return;
+        }
+        self.resolve_member(resolving, span, shape)
+    }
+
+    fn resolve_member(&mut self, resolving: &mut Resolving, span: Span, shape: Shape) {
+        let value_type = resolving.place.value_type;
+        let Shape::Struct(found) = shape else {
+            return self.type_error(span, ErrorKind::NO_PART, value_type);
+        };
+        let word = self.word(span);
+        match self.program.types.field(self.tree, found, word) {
+            Some((number, to)) => { self.add_way(&mut resolving.place, WayKind::Field(number), to) }
+            None => {
+                let mut about = About::of_type(value_type);
+                about.near = self.near_field(found, word);
+                self.error_about(span, ErrorKind::NO_FIELD, about)
+            }
+        }
+    }
+
+    /// The type of a place, if it is one. `int` for a length.
+    pub fn type_of(&self, at: ExpressionAt) -> Option<TypeAt> {
+        let expression = self.tree.expression(at)?;
+        let ExpressionKind::Place(steps) = expression.kind else {
+            return None;
+        };
+        let word = self.word(expression.span);
+        let (mut found, skipped) = match self.names.find(self.tree, word) {
+            Some(name) => (self.type_of_name(name)?, 0),
+            None => self.type_of_object(word)?,
+        };
+        for (number, step) in self.tree.steps(steps).iter().enumerate() {
+            if number >= skipped {
+                found = self.type_of_step(found, step)?;
+            }
+        }
+        Some(found)
+    }
+
+    fn type_of_name(&self, at: usize) -> Option<TypeAt> {
+        match self.names.get(at)?.meaning {
+            Meaning::Number { .. } => Some(TypeAt::INT),
+            Meaning::Place { place, .. } => Some(place.value_type),
+            Meaning::Owner { value_type, .. } => Some(value_type),
+            Meaning::Hidden(_) | Meaning::Unknown => None,
+        }
+    }
+
+    fn type_of_object(&self, word: &[u8]) -> Option<(TypeAt, usize)> {
+        let at = self.program.object_named(self.tree, word)?;
+        let object = self.program.object(at)?;
+        let skipped = match object.kind {
+            ObjectKind::Single | ObjectKind::Unique => 0,
+            ObjectKind::Array(_) | ObjectKind::Family => 1,
+        };
+        Some((object.value_type, skipped))
+    }
+
+    fn type_of_step(&self, from: TypeAt, step: &Step) -> Option<TypeAt> {
+        let shape = self.content_shape(from);
+        match step.kind {
+            StepKind::Index(_) => shape.item(),
+            StepKind::Method(_) => Some(TypeAt::INT),
+            StepKind::Field => self.type_of_field(shape, step.span),
+        }
+    }
+
+    /// The shape of a type, or of what an `own` or a `shared` contains.
+    fn content_shape(&self, from: TypeAt) -> Shape {
+        let mut from = from;
+        for _ in 0..self.program.types.len() {
+            match self.program.types.shape(from).content() {
+                Some(content) => from = content,
+                None => break,
+            }
+        }
+        self.program.types.shape(from)
+    }
+
+    fn type_of_field(&self, shape: Shape, name: Span) -> Option<TypeAt> {
+        let Shape::Struct(found) = shape else {
+            return Some(TypeAt::INT);
+        };
+        let word = self.word(name);
+        let (_, to) = self.program.types.field(self.tree, found, word)?;
+        Some(to)
+    }
+
+    /// Whether an expression is a place with a text.
+    pub fn is_text(&self, at: ExpressionAt) -> bool {
+        self.is_place(at) && self.type_of(at) == Some(TypeAt::TEXT)
+    }
+
+    /// Whether a place is a number, or the number of its items is meant.
+    pub fn is_number(&self, place: &Place) -> bool {
+        place.is_length || place.value_type == TypeAt::INT
+    }
+
+    /// How many steps of the way to a place can fail, without those to its name.
+    pub fn fallible(&self, place: &Place) -> usize {
+        let (skipped, roots) = match (place.via, place.root) {
+            (Some(name), _) => (self.way_length(name), 0),
+            (None, Root::Owner(_) | Root::Number(_)) => (0, 0),
+            (None, _) => (0, 1),
+        };
+        self.openers_from(place, skipped).saturating_add(roots)
+    }
+
+    /// The number of steps of a name's way.
+    pub fn way_length(&self, name: usize) -> usize {
+        match self.names.get(name) {
+            Some(name) => match name.meaning {
+                Meaning::Place { place, .. } => place.len(),
+                _ => 0,
+            },
+            None => 0,
+        }
+    }
+
+    /// How many steps of a place's way, from one on, can fail.
+    pub fn openers_from(&self, place: &Place, skipped: usize) -> usize {
+        let mut count = 0usize;
+        for at in place.first.saturating_add(skipped)..place.end {
+            if let Some(way) = self.ways.get(at) {
+                if way.kind.can_fail() {
+                    count = count.saturating_add(1);
+                }
+            }
+        }
+        count
+    }
+
+    /// The last step of a place's way.
+    pub fn last_way(&self, place: &Place) -> Option<WayKind> {
+        if place.len() == 0 {
+            return None;
+        }
+        let at = place.end.checked_sub(1)?;
+        Some(self.ways.get(at)?.kind)
+    }
+
+    pub fn check_changeable(&mut self, place: &Place) {
+        if place.is_frozen {
+            return self.error(place.span, ErrorKind::FROZEN);
+        }
+    }
+}

@@ -1,0 +1,234 @@
+//! What is to be done next. Tasks wait on a stack, so that no function calls itself.
+
+use client_code::DEPTH;
+use script_code::{Place, Register};
+use script_syntax::{
+    BinaryOperator, Block, ElsePart, ExpressionAt, Range, Span, Statement, UnaryOperator,
+};
+
+/// A number that is worked out.
+#[derive(Clone, Copy)]
+pub struct Value {
+    pub register: Register,
+    /// Whether the register may be changed.
+    pub is_own: bool,
+}
+
+impl Value {
+    /// A placeholder.
+    pub const NONE: Value = Value {
+        register: Register(0),
+        is_own: false,
+    };
+}
+
+/// The rest of a block.
+#[derive(Clone, Copy)]
+pub struct Sequence {
+    pub now: Range,
+    /// The statements after `now`, to which the block's names aren't visible unless they are
+    /// `inside`.
+    pub later: Range,
+    pub is_inside: bool,
+    /// The position where the block's names begin.
+    pub names: usize,
+    /// Whether these statements are in a part of their own, since one before them may have left.
+    pub is_guarded: bool,
+    pub has_names: bool,
+}
+
+impl Sequence {
+    pub fn of(block: Block, names: usize, is_inside: bool) -> Sequence {
+        Sequence {
+            now: block.statements,
+            later: block.following,
+            is_inside,
+            names,
+            is_guarded: false,
+            has_names: false,
+        }
+    }
+
+    pub fn is_empty(&self) -> bool {
+        self.now.is_empty() && self.later.is_empty()
+    }
+}
+
+/// A walk to a place, with the parts that it opened.
+#[derive(Clone, Copy)]
+pub struct Walk {
+    pub opened: [Register; DEPTH],
+    pub count: usize,
+    /// The register that refers to the place, or contains the number.
+    pub register: Register,
+    /// The register that the walk holds.
+    pub held: Option<Register>,
+    pub is_frozen: bool,
+}
+
+/// What is done if something fails.
+#[derive(Clone, Copy)]
+pub enum Handler {
+    Nothing,
+    Part(ElsePart),
+    /// The `fail` part of the program.
+    Fail,
+}
+
+/// How a loop continues.
+#[derive(Clone, Copy)]
+pub enum Turn {
+    /// A byte of the input in this register.
+    Input(Register),
+    /// The numbers from the register's on.
+    Numbers {
+        index: Register,
+        end: End,
+        digits: usize,
+        is_positive: bool,
+    },
+    /// The items of a container, with the last key or index.
+    Items {
+        place: Place,
+        key: Register,
+    },
+    While(ExpressionAt),
+}
+
+/// The position where the numbers of a loop end.
+#[derive(Clone, Copy)]
+pub enum End {
+    Literal(i64),
+    Register(Register),
+}
+
+/// A loop that is being compiled.
+#[derive(Clone, Copy)]
+pub struct Loop {
+    pub statement: Statement,
+    /// Whether another turn follows.
+    pub go: Register,
+    pub turns: i32,
+    /// Whether items are looked up again at each use.
+    pub is_flat: bool,
+    pub turn: Turn,
+}
+
+/// A text that is being added to.
+#[derive(Clone, Copy)]
+pub struct TextTarget {
+    /// The register that refers to the text.
+    pub text: Register,
+    pub temporary: Register,
+    /// The register of the code, or 0.
+    pub code: Register,
+    pub place: Place,
+    pub replaces: bool,
+    pub max: Option<ExpressionAt>,
+}
+
+/// What is printed, or added to a text.
+#[derive(Clone, Copy)]
+pub enum Output {
+    Printed { ends_line: bool },
+    Added(TextTarget),
+}
+
+#[derive(Clone, Copy)]
+pub enum Task {
+    // blocks and statements
+    Block(Block),
+    /// A block whose names begin here. What follows it sees them if it is `inside`.
+    Body(Block, usize, bool),
+    Sequence(Sequence),
+    /// With how many statements had left, and how many were put off.
+    AfterStatement(Sequence, usize, usize),
+    EndGuard(Span),
+    EndScope(usize),
+    Statement(Statement),
+    Perform(Statement),
+    EndStatement,
+    EndChoice,
+    EndNest,
+    DropNest,
+    BeginDeferred(usize),
+    RunDeferred(usize),
+    /// Ends the statements with this number, whose names begin here.
+    EndDeferred(usize, usize),
+    SetFlat(bool),
+    // parts and registers
+    Else,
+    ElseOne(Register),
+    EndPart,
+    Release(Register),
+    Keep(Register),
+    CloseWalk(Walk, Handler, Option<Register>),
+    CloseNoting(Walk, Register),
+    Handle(Handler, Register),
+    /// Runs the first, unless the register is 0.
+    HandleIf(Register, Handler),
+    SetBase(usize),
+    At(Span),
+    // expressions
+    Evaluate(ExpressionAt, Option<Register>),
+    Push(Value),
+    Fresh,
+    Unary(UnaryOperator, Option<Register>),
+    Binary(BinaryOperator, Option<Register>),
+    Logic(BinaryOperator, ExpressionAt),
+    LogicEnd(BinaryOperator, Register),
+    Truth(Register),
+    Divide(BinaryOperator, Option<i64>),
+    Place(ExpressionAt, usize),
+    Resolve(ExpressionAt, usize),
+    Load(ExpressionAt, Option<Register>),
+    MoveTo(Register),
+    Default(ExpressionAt, Register),
+    Compare(ExpressionAt, BinaryOperator, Range),
+    // calls
+    /// Calls a function with these arguments for its number.
+    BeginCall(ExpressionAt, Span, Range),
+    /// Calls the function with this position, for its number or not.
+    Call(usize, ExpressionAt, bool),
+    EndCall,
+    // constructs
+    EndLoop,
+    EndInput(Register),
+    /// Continues to the next turn, unless the loop was left.
+    NextTurn(Loop),
+    EndMain,
+    // statements after their values
+    DoIf(Statement),
+    DoLet(Span, ExpressionAt),
+    BindNumber(Span, usize),
+    BindSet(Span, Register, usize),
+    BindPlace(Span, Place),
+    DoLookup(Statement),
+    DoTake(Statement),
+    DoPush(Statement, bool),
+    DoPop(Statement),
+    /// Keeps the place of a `use` with this number.
+    Hold(Statement, usize, Option<Register>),
+    HoldFlat(Statement, usize, Register),
+    DoItems(Statement),
+    DoNumbers(Statement),
+    BeginLoop(Loop),
+    DoSet(Statement),
+    DoPut(Statement, usize),
+    DoText(Statement),
+    TextCopy(TextTarget, ExpressionAt),
+    TextEnd(Walk, TextTarget, Handler),
+    Items(Range, Output),
+    Digits(ExpressionAt, Output),
+    Padded(usize, Output),
+    WriteText(ExpressionAt),
+    WriteLine,
+    DoMethod(Statement, bool),
+    DoDelete(Statement),
+    DoDeleteKey(Statement),
+    DoClear(Statement, ExpressionAt),
+    DoShrink(ExpressionAt),
+    DoFreeze(Statement),
+    DoShare(Statement),
+    DoReturn(Statement),
+}
