@@ -1,4 +1,4 @@
-//! The code of the numbers, places and texts of a program, and of its declarations.
+//! The code of the numbers, places, texts and statements of a program, and of its declarations.
 #![tactic(auto)]
 
 mod calls;

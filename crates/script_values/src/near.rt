@@ -66,8 +66,13 @@ fn is_near(one: &[u8], two: &[u8]) -> bool {
     if first.saturating_add(last) < 2 {
         return false;
     }
-    match (without_end(one, last), without_end(two, last)) {
-        ([], [_]) | ([_], []) | ([_], [_]) => true,
+    let (one, two) = (without_end(one, last), without_end(two, last));
+    one.len().max(two.len()) == 1 || is_swapped(one, two)
+}
+
+/// Whether two words are the same two letters, in the other order.
+fn is_swapped(one: &[u8], two: &[u8]) -> bool {
+    match (one, two) {
         ([a, b], [c, d]) => a == d && b == c,
         _ => false,
     }
