@@ -117,7 +117,7 @@ impl<'t> Compiler<'t> {
 }
 
 impl<'t> Compiler<'t> {
-    /// The client with these parts, or why there is none.
+    /// The client with these parts, or why it has none.
     pub fn finish(self, linked: Linked) -> Result<Compiled, Failure> {
         if self.has_failed() {
             return Err(self.into_failure());

@@ -13,7 +13,7 @@ use script_syntax::{
 const MOST_BLOCKS: usize = 1_000_000;
 
 impl Emitter<'_> {
-    /// Whether a function takes so many arguments. If it doesn't, that is noted.
+    /// Whether a function takes this many arguments. If it doesn't, that is noted.
     pub fn takes(&mut self, function: Function, span: Span, arguments: Range) -> bool {
         let tree = self.tree;
         let wanted = tree.fields(function.parameters).len();

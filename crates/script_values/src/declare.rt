@@ -182,7 +182,7 @@ impl Emitter<'_> {
         }
     }
 
-    /// Works out the constants that depend on known ones. Returns false if there are none.
+    /// Works out the constants that depend on known ones. Returns false if there aren't any.
     fn find_more_values(&mut self) -> bool {
         let mut finds = false;
         for at in 0..self.program.values.len() {

@@ -35,7 +35,7 @@ impl Emitter<'_> {
         self.begin_delete_item(statement, at, steps)
     }
 
-    /// The object that a name stands for, and its kind. A local name hides an object.
+    /// The object with a name, and its kind. A local name hides an object.
     fn deleted_object(&self, span: Span) -> Option<(usize, ObjectKind)> {
         let word = self.word(span);
         if self.names.find(self.tree, word).is_some() {
