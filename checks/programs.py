@@ -4,9 +4,10 @@
     programs.py random [--count N] [--seed S] [--segtool PATH] [--jobs J] [--short] [--prototype LEZ.PY]
     programs.py damaged [--count N] [--seed S] [--segtool PATH] [--jobs J]
 
-`random` makes N well-typed programs, ten for an image. It runs them with `segtool run`, and compares what they print and the objects that
-they leave with `program_meaning.py`. With `--short` the images are so small that memory runs out. `damaged` changes the bytes of programs;
-`segtool compile` has to refuse each in words, or to write a client that the verifier accepts. A failure prints what repeats it."""
+`random` makes N well-typed programs, ten for an image. It runs them with `segtool run`, and compares what they print
+and the objects that they leave with `program_meaning.py`. With `--short` the images are so small that memory runs out.
+`damaged` changes the bytes of programs; `segtool compile` has to report an error for each, or to write a client that
+the verifier accepts. A failure is printed with what repeats it."""
 import argparse
 import importlib.util
 import multiprocessing
@@ -105,7 +106,8 @@ class World:
 
     def types(self):
         """All types that an image gets. Two structs of the same shape count twice."""
-        found, waiting = {INT, TEXT}, [thing.kind for thing in self.objects] + [("struct", name) for name in self.structs]
+        found = {INT, TEXT}
+        waiting = [thing.kind for thing in self.objects] + [("struct", name) for name in self.structs]
         while waiting:
             kind = waiting.pop()
             if kind not in found:
@@ -121,7 +123,8 @@ class Name:
     """A local name. `path` is where its place lies; a number has none."""
 
     def __init__(self, text, kind, path=None, settable=False, frozen=False, owned=False, loop=0):
-        self.text, self.kind, self.path, self.settable, self.frozen, self.owned, self.loop = text, kind, path, settable, frozen, owned, loop
+        self.text, self.kind, self.path, self.settable = text, kind, path, settable
+        self.frozen, self.owned, self.loop = frozen, owned, loop
         self.alive = True
 
 
@@ -150,7 +153,8 @@ def same_step(one, other):
 
 
 def ends(path, removal):
-    """Whether a name with this path ends by a removal: a path, and whether the place itself goes, or only what is below it."""
+    """Whether a removal ends a name with this path. It has a path too, and tells whether the place itself goes, or only
+    what is below it."""
     (root, steps), ((other, gone), whole) = path, removal
     if root[:2] != other[:2]:
         return False
@@ -315,14 +319,16 @@ class Maker:
                 return (f"{place.text} {rng.choice(['==', '!='])} {self.constant_text()}", 3)
             return self.atom()
         if choice < 0.71:
-            divisor = rng.choice([name.text for name in self.numbers()] or ["3"]) if self.chance(0.5) else rng.choice(["2", "3", "10", "(-7)"])
+            divisors = [name.text for name in self.numbers()] if self.chance(0.5) else []
+            divisor = rng.choice(divisors or ["2", "3", "10", "(-7)"])
             return (f"{self.at(5, depth - 1)} {rng.choice('/%')} {divisor}", 5)
         if choice < 0.85:
             operation = rng.choice(["+", "-", "*"])
             level = 5 if operation == "*" else 4
             return (f"{self.at(level, depth - 1)} {operation} {self.at(level + 1, depth - 1)}", level)
         if choice < 0.94:
-            return (f"{self.at(4, depth - 1)} {rng.choice(['==', '!=', '<', '<=', '>', '>='])} {self.at(4, depth - 1)}", 3)
+            operation = rng.choice(["==", "!=", "<", "<=", ">", ">="])
+            return (f"{self.at(4, depth - 1)} {operation} {self.at(4, depth - 1)}", 3)
         operation, level = rng.choice([("&&", 2), ("||", 1)])
         return (f"{self.at(level, depth - 1)} {operation} {self.at(level + 1, depth - 1)}", level)
 
@@ -390,9 +396,9 @@ class Maker:
             removals.append(((root, steps), whole))
         # a function that removes something of the object that it is given a part of would end its own parameter
         for removal in removals:
-            if any(ends(path, removal) for path in self.protected) or self.function is not None and removal[0][0][0] != "owned":
+            if self.function is not None and removal[0][0][0] != "owned":
                 return None
-            if any(ends(path, removal) for path in paths.values()):
+            if any(ends(path, removal) for path in [*self.protected, *paths.values()]):
                 return None
         for removal in removals:
             if not self.removes(removal):
@@ -402,7 +408,8 @@ class Maker:
     # blocks
 
     def block(self, most, begin=(), before=()):
-        """A block: its lines without braces, and whether its end is never reached. `begin` are names, `before` lines at its start."""
+        """A block: its lines without braces, and whether its end is never reached. `begin` are names that it begins
+        with, and `before` lines."""
         scope, held = list(self.scope), dict(self.held)
         for name in begin:
             self.add(name)
@@ -497,11 +504,13 @@ class Maker:
         self.budget -= 1
         rng = self.rng
         simple = [
-            (self.print_items, 9), (self.set_number, 7), (self.set_place, 12), (self.push, 7), (self.pop, 4), (self.set_text, 6),
-            (self.delete, 4), (self.clear, 2), (self.move, 4), (self.share, 2), (self.let, 6), (self.call, 3), (self.freeze, 3)]
+            (self.print_items, 9), (self.set_number, 7), (self.set_place, 12), (self.push, 7), (self.pop, 4),
+            (self.set_text, 6), (self.delete, 4), (self.clear, 2), (self.move, 4), (self.share, 2), (self.let, 6),
+            (self.call, 3), (self.freeze, 3)]
         nested = [
-            (self.condition, 6), (self.lookup, 9), (self.pushed, 4), (self.popped, 3), (self.lookup_or_leave, 3), (self.range_loop, 4),
-            (self.container_loop, 5), (self.input_loop, 2), (self.while_loop, 3), (self.use, 4), (self.new, 5), (self.take, 2)]
+            (self.condition, 6), (self.lookup, 9), (self.pushed, 4), (self.popped, 3), (self.lookup_or_leave, 3),
+            (self.range_loop, 4), (self.container_loop, 5), (self.input_loop, 2), (self.while_loop, 3), (self.use, 4),
+            (self.new, 5), (self.take, 2)]
         choices = simple + (nested if self.deep < (4 if self.chance(0.4) else 3) else [])
         if self.deep > 1 and self.chance(0.06):
             return self.leaving(), True
@@ -693,7 +702,9 @@ class Maker:
     def new_type(self):
         """A type for `new`: one that some place can own or share."""
         kinds = sorted({kind[1] for kind in self.world.types() if kind[0] in CELLS})
-        return self.rng.choice(kinds) if kinds and self.chance(0.85) else self.rng.choice([TEXT, ("list", INT), ("map", INT)])
+        if not kinds or self.chance(0.15):
+            kinds = [TEXT, ("list", INT), ("map", INT)]
+        return self.rng.choice(kinds)
 
     def new(self):
         kind, text = self.new_type(), self.fresh()
@@ -749,7 +760,8 @@ class Maker:
             if place is not None:
                 step = "first" if self.chance(0.5) else f"after({self.number_text(1)})"
                 return f"{place.text}.{step}", Name(text, INT, settable=True)
-        place = self.place(lambda kind: kind[0] in CELLS) if choice < 0.35 else self.place(lambda kind: kind != INT or self.chance(0.4))
+        cell = choice < 0.35
+        place = self.place(lambda kind: kind[0] in CELLS if cell else kind != INT or self.chance(0.4))
         if place is None:
             return None, None
         if place.kind[0] in CELLS:
@@ -823,13 +835,11 @@ class Maker:
         kept = [name for name in self.scope if name.path is None or name.alive and self.chance(0.7)]
         self.protected += [name.path for name in kept if name.path is not None] + list(paths)
         self.scope, self.turns = kept, self.turns * turns
-        hidden = [name for name, local in self.held.items() if local not in kept]
         held = dict(self.held)
         self.loop += 1
         lines, _ = self.block(most, begin)
         self.loop -= 1
         self.held = held
-        del hidden
         self.scope, self.protected, self.turns = scope, protected, outside
         return lines
 
@@ -884,7 +894,9 @@ class Maker:
         root, steps = place.path
         part = INT if place.kind == TEXT else place.kind[1]
         first, second = self.fresh(), self.fresh()
-        item = Name(second, INT) if part == INT else Name(second, part, (root, steps + (("key", None),)), frozen=place.frozen)
+        item = Name(second, INT)
+        if part != INT:
+            item = Name(second, part, (root, steps + (("key", None),)), frozen=place.frozen)
         number = Name(first, INT)
         if not both:
             item.text = first
@@ -896,8 +908,8 @@ class Maker:
     def use(self):
         """`use` of an object by its own name, or of a place with a name."""
         if self.chance(0.6):
-            things = [thing for thing in self.objects if thing.name not in self.held and thing.word != "family" and not thing.count
-                      and thing.kind[0] not in CELLS]
+            things = [thing for thing in self.objects if thing.name not in self.held and thing.word != "family"
+                      and not thing.count and thing.kind[0] not in CELLS]
             if not things or self.function is not None:
                 return None
             chosen = self.rng.sample(things, 1 if self.chance(0.7) else min(2, len(things)))
@@ -916,10 +928,10 @@ class Maker:
             def inside():
                 self.held = {**held, **{name.text: name for name in names if chosen}}
                 return self.block(4, names)
-            otherwise = (self.fail is None or self.chance(0.4)) and self.code()
-            one, other, left = self.branches(inside, lambda: (self.short_block(otherwise[1]) if otherwise else [], False))
+            head, code = self.code() if self.fail is None or self.chance(0.4) else ("", None)
+            one, other, left = self.branches(inside, lambda: (self.short_block(code), False))
             self.held = held
-            return self.join(words, one, otherwise[0], other) if otherwise else self.join(words, one), left
+            return self.join(words, one, head, other) if head else self.join(words, one), left
         if self.chance(0.4) or self.short and not self.fail_stops:
             words += f" else {{ {'; '.join(self.leaving())} }}"
         for name in names:
@@ -999,14 +1011,14 @@ class Maker:
 # ---- running programs
 
 
-LIMITS = re.compile(r"more than 16 numbers and references|more than 8 parts would be open|instructions, and 4,?096 are the limit|"
-                    r"constants are needed|more than 32 types|could take [\d,]+ steps")
+LIMITS = re.compile(r"more than 16 numbers and references|more than 8 parts would be open|instructions, and 4,?096 are "
+                    r"the limit|constants are needed|more than 32 types|could take [\d,]+ steps")
 HEADER = re.compile(rb"(?P<file>[^\n]*?):(?P<line>\d+):(?P<column>\d+): (?P<kind>error|warning): (?P<text>[^\n]+)")
 
 
 class Outcome:
-    """What running programs on an image did. `kind` is `ran`, `limit` (a program is past one), `rejected`, `refused` (by the verifier) or
-    `broken`; `program` is the one that didn't compile."""
+    """What running programs on an image did. `kind` is `ran`, `limit` (a program is past one), `rejected`, `refused`
+    (by the verifier) or `broken`. `program` is the one that didn't compile."""
 
     def __init__(self, kind, program=None, text="", output=b"", shown=None):
         self.kind, self.program, self.text, self.output, self.shown = kind, program, text, output, shown
@@ -1020,12 +1032,13 @@ class Tool:
     """`segtool` and a folder to use it in, of one process."""
 
     def __init__(self, path, prototype, room):
-        self.path, self.room, self.images = path, Path(room), {}
+        self.path, self.room, self.images, self.known = path, Path(room), {}, {}
         self.compiler = load(prototype) if prototype else None
 
     def call(self, *words, timeout=60):
-        return subprocess.run([self.path, *map(str, words)], cwd=self.room, stdout=subprocess.PIPE, stderr=subprocess.PIPE,
-                              stdin=subprocess.DEVNULL, close_fds=False, timeout=timeout, check=False)
+        return subprocess.run([self.path, *map(str, words)], cwd=self.room, stdout=subprocess.PIPE,
+                              stderr=subprocess.PIPE, stdin=subprocess.DEVNULL, close_fds=False, timeout=timeout,
+                              check=False)
 
     def image(self, combination, size):
         if (combination, size) not in self.images:
@@ -1059,7 +1072,8 @@ class Tool:
         return Outcome("ran", output=ran.stdout, shown=objects_of(shown.stdout.decode()))
 
     def failed(self, ran):
-        errors = [match for match in map(HEADER.fullmatch, ran.stderr.split(b"\n")) if match and match["kind"] == b"error"]
+        headers = map(HEADER.fullmatch, ran.stderr.split(b"\n"))
+        errors = [match for match in headers if match and match["kind"] == b"error"]
         text = ran.stderr.decode(errors="replace")
         if errors and ran.returncode == 1:
             texts = [match["text"].decode() for match in errors]
@@ -1073,13 +1087,19 @@ class Tool:
         """The prototype's clients of programs, or why there are none."""
         types, clients = [], []
         for number, text in enumerate(programs):
-            try:
-                made = self.compiler.compile(text, types)
-            except self.compiler.Bad as bad:
-                return Outcome("limit" if LIMITS.search(bad.text) else "rejected", number, bad.text), None
-            except Exception as error:  # the prototype may fail in any way
-                return Outcome("broken", number, f"{type(error).__name__}: {error}"), None
-            types = made.table.l
+            key = (text, str(types))
+            if key not in self.known:
+                try:
+                    self.known[key] = self.compiler.compile(text, types)
+                except self.compiler.Bad as bad:
+                    kind = "limit" if LIMITS.search(bad.text) else "rejected"
+                    self.known[key] = Outcome(kind, number, bad.text)
+                except Exception as error:  # the prototype may fail in any way
+                    self.known[key] = Outcome("broken", number, f"{type(error).__name__}: {error}")
+            made = self.known[key]
+            if isinstance(made, Outcome):
+                return Outcome(made.kind, number, made.text), None
+            types = [[kind, list(parts)] for kind, parts in made.table.l]
             clients.append(f"{number}.client")
             (self.room / "client.text").write_text(made.text, encoding="latin-1")
             assembled = self.call("asm", "client.text", clients[-1], "--force")
@@ -1098,7 +1118,8 @@ def load(path):
 
 
 def objects_of(text):
-    """The objects that `show` prints, each a list of lines, in order of their lines. The types of unique objects are left out."""
+    """The objects that `show` prints, each a list of lines, in order of their lines. The types of unique objects are
+    left out."""
     found = []
     for line in text.splitlines():
         if line[:1] in (" ", "("):
@@ -1126,7 +1147,8 @@ class Apart(Exception):
 
 
 def explained(programs, given, outcome, most=3000):
-    """Whether the interpreter can do the same if memory is refused at some of its requests. None if too many ways were tried."""
+    """Whether the interpreter can do the same if memory is refused at some of its requests. None if that isn't decided
+    after so many runs."""
     refused = []
     for _ in range(most):
         at = 0
@@ -1268,7 +1290,8 @@ def smaller(tool, programs, given, combination, size, outcome, differs, most=300
 
 
 def reductions(text):
-    """The program with one statement, declaration or else part less, or with a statement replaced by one of its blocks."""
+    """The program with one statement, declaration or else part less, or with a statement replaced by one of its
+    blocks."""
     tree = meaning.parse(text)
     found = {text[:start] + text[end:] for start, end in tree.statements + tree.others}
     for start, end in tree.statements:
@@ -1298,22 +1321,29 @@ def report(tool, seed, combination, programs, given, size, differs):
 
 
 CONTROL = re.compile(r"[\x00-\x08\x0b-\x1f\x7f-\x9f]")
-ODD = [b"\xff", b"\xc3", b"\xed\xa0\x80", b"\xc0\x80", b"\xf4\x90\x80\x80", b"\xef\xbb\xbf", b"\x00", b"\x1b[31m", b"\x07", b"\r", b"\t",
-       b"\x7f", b"\xc2\x9b", b"\xe2\x80\xae", b"\\", b'"', b"'", b"{", b"}", b"(", b")", b"#", b"\n", "é".encode(), "𝛌".encode()]
+ODD = [b"\xff", b"\xc3", b"\xed\xa0\x80", b"\xc0\x80", b"\xf4\x90\x80\x80", b"\xef\xbb\xbf", b"\x00", b"\x1b[31m",
+       b"\x07", b"\r", b"\t", b"\x7f", b"\xc2\x9b", b"\xe2\x80\xae", b"\\", b'"', b"'", b"{", b"}", b"(", b")", b"#", b"\n",
+       "é".encode(), "𝛌".encode()]
+NESTS = [
+    (b"(", b"1", b")"), (b"-(", b"1", b")"), (b"!", b"1", b""), (b"- ", b"1", b""), (b"if 1 {\n", b"print 1", b"}\n"),
+    (b"{", b"", b"}"), (b"m[", b"0", b"]"), (b"m[0] ?? ", b"0", b""), (b"1 + ", b"1", b""), (b"1 * (", b"1", b")"),
+    (b"1 && ", b"1", b""), (b"f(", b"1", b")"), (b"for i in 0..2 {", b"", b"}"), (b"while 1 max 2 {", b"", b"}"),
+    (b"if 1 { } else ", b"{ }", b""), (b"if let x = m[0] {", b"print x", b"} else { }"), (b"a.", b"b", b""),
+    (b"list<", b"int", b">"), (b"fn f() {", b"", b"}"), (b"# ", b"", b""), (b"use m {", b"", b"}"),
+    (b"let x = new text ", b"", b""), (b"'", b"", b""), (b'"a" ', b"", b""), (b"print 1;", b"", b"")]
+HEADS = [b"print ", b"let y = ", b"", b"object m: map<int>\nprint ", b"object m: ", b"const c = ",
+         b"fn f(a) -> int { return ", b"\t"]
+ALONE = [b"", b"\n", b" ", b"\0", b"\xff", b"#", b"print", b"\xef\xbb\xbf", b"\n" * 5000, b"a" * 100_000,
+         b'"' + b"a" * 70_000 + b'"', b"print 1 " * 20_000, b"x" * 300 + b" = 1", b"1" * 5000, b"object " * 3000,
+         b"\x00" * 1000, b"print y\n" * 3000, b"let a = 1\n" * 3000, b'print "' + b"a" * 600 + b'"\n']
 
 
 def nested(rng):
     """A text that is deep, long or both."""
     deep = rng.choice([8, 9, 30, 200, 3000, 30_000])
-    begin, middle, end = rng.choice([
-        (b"(", b"1", b")"), (b"-(", b"1", b")"), (b"!", b"1", b""), (b"- ", b"1", b""), (b"if 1 {\n", b"print 1", b"}\n"), (b"{", b"", b"}"),
-        (b"m[", b"0", b"]"), (b"m[0] ?? ", b"0", b""), (b"1 + ", b"1", b""), (b"1 * (", b"1", b")"), (b"1 && ", b"1", b""),
-        (b"f(", b"1", b")"), (b"for i in 0..2 {", b"", b"}"), (b"while 1 max 2 {", b"", b"}"), (b"if 1 { } else ", b"{ }", b""),
-        (b"if let x = m[0] {", b"print x", b"} else { }"), (b"a.", b"b", b""), (b"list<", b"int", b">"), (b"fn f() {", b"", b"}"),
-        (b"# ", b"", b""), (b"use m {", b"", b"}"), (b"let x = new text ", b"", b""), (b"'", b"", b""), (b'"a" ', b"", b""), (b"print 1;", b"", b"")])
+    begin, middle, end = rng.choice(NESTS)
     line = begin * deep + middle + end * (deep if rng.random() < 0.8 else deep // 2)
-    head = rng.choice([b"print ", b"let y = ", b"", b"object m: map<int>\nprint ", b"object m: ", b"const c = ", b"fn f(a) -> int { return ", b"\t"])
-    return head + line[: 1 << 19] + rng.choice([b"", b"\n", b"}"])
+    return rng.choice(HEADS) + line[: 1 << 19] + rng.choice([b"", b"\n", b"}"])
 
 
 def damaged(rng, texts):
@@ -1321,9 +1351,7 @@ def damaged(rng, texts):
     if choice < 0.04:
         return nested(rng)
     if choice < 0.05:
-        return rng.choice([b"", b"\n", b" ", b"\0", b"\xff", b"#", b"print", b"\xef\xbb\xbf", b"\n" * 5000, b"a" * 100_000, b'"' + b"a" * 70_000 + b'"',
-                           b"print 1 " * 20_000, b"x" * 300 + b" = 1", b"1" * 5000, b"object " * 3000, b"\x00" * 1000, b"print y\n" * 3000,
-                           b"let a = 1\n" * 3000, b'print "' + b"a" * 600 + b'"\n'])
+        return rng.choice(ALONE)
     data = bytearray(rng.choice(texts))
     if choice < 0.15:
         other = rng.choice(texts)
@@ -1504,7 +1532,8 @@ def main():
                 print(f"{failures} failures; the rest isn't run")
                 break
             if done % 100 == 0:
-                print(f"{total['programs']} programs, {failures} failures, {time.monotonic() - began:.0f} s", flush=True)
+                seconds = time.monotonic() - began
+                print(f"{total['programs']} programs, {failures} failures, {seconds:.0f} s", flush=True)
         pool.terminate()
     print("; ".join(f"{name}: {number}" for name, number in sorted(total.items())))
     print(f"{failures} failures, {time.monotonic() - began:.0f} s, seeds {seeds[0]} to {seeds[-1]}")
