@@ -95,7 +95,7 @@ class World:
         if word in CELLS:
             if rng.random() < 0.7 and names:
                 return (word, ("struct", rng.choice(names)))
-            return (word, rng.choice([TEXT, ("list", INT), ("map", TEXT), ("map", INT)]))
+            return (word, rng.choice([INT, TEXT, ("list", INT), ("map", TEXT), ("map", INT)]))
         # an item may be a struct that isn't declared yet, since it is behind a pointer
         return (word, self.type(depth - 1, names, names))
 
@@ -344,12 +344,16 @@ class Maker:
         """A number of the segment."""
         kinds = ("text",) + SEQUENCES + MAPS
         choice = self.rng.random()
+        if choice < 0.03:
+            arrays = [thing for thing in self.objects if thing.count]
+            if arrays:
+                return (f"{self.rng.choice(arrays).name}.len", 6)
         if choice < 0.25:
-            place = self.place(lambda kind: kind[0] in kinds)
+            place = self.place(lambda kind: self.inside(kind)[0] in kinds)
             if place:
-                return self.defaulted(f"{place.text}.len", place.absent)
+                return self.defaulted(f"{place.text}.len", place.absent or place.kind[0] in CELLS)
         if choice < 0.35:
-            place = self.place(lambda kind: kind[0] in MAPS)
+            place = self.place(lambda kind: self.inside(kind)[0] in MAPS)
             if place:
                 step = "first" if self.chance(0.5) else f"after({self.number_text(0)})"
                 return self.defaulted(f"{place.text}.{step}", True)
@@ -359,6 +363,10 @@ class Maker:
                 return self.defaulted(f"{place.text}[{self.key()[0]}]", True)
         place = self.place(lambda kind: kind == INT)
         return self.defaulted(place.text, place.absent) if place else self.atom()
+
+    def inside(self, kind):
+        """The type of what `.` and `[ ]` see."""
+        return kind[1] if kind[0] in CELLS else kind
 
     def defaulted(self, text, absent):
         if not absent:
@@ -477,7 +485,7 @@ class Maker:
 
     def leaving(self, printing=True):
         """A statement that leaves."""
-        choices = ["stop"] if self.chance(0.1) else []
+        choices = ["stop"] if self.chance(0.05) else []
         if self.loop:
             choices += ["break", "continue"]
         if self.function is not None:
@@ -503,17 +511,21 @@ class Maker:
         """The lines of a random statement, and whether what follows it is never reached."""
         self.budget -= 1
         rng = self.rng
+        outside = not self.loop and self.function is None
         simple = [
             (self.print_items, 9), (self.set_number, 7), (self.set_place, 12), (self.push, 7), (self.pop, 4),
             (self.set_text, 6), (self.delete, 4), (self.clear, 2), (self.move, 4), (self.share, 2), (self.let, 6),
             (self.call, 3), (self.freeze, 3)]
         nested = [
-            (self.condition, 6), (self.lookup, 9), (self.pushed, 4), (self.popped, 3), (self.lookup_or_leave, 3),
-            (self.range_loop, 4), (self.container_loop, 5), (self.input_loop, 2), (self.while_loop, 3), (self.use, 4),
-            (self.new, 5), (self.take, 2)]
+            (self.condition, 6), (self.lookup, 9), (self.pushed, 4), (self.popped, 3),
+            (self.lookup_or_leave, 1 if outside else 3), (self.range_loop, 4), (self.container_loop, 5),
+            (self.input_loop, 2), (self.while_loop, 3), (self.use, 4), (self.new, 3), (self.publish, 6), (self.take, 3)]
         choices = simple + (nested if self.deep < (4 if self.chance(0.4) else 3) else [])
         if self.deep > 1 and self.chance(0.06):
             return self.leaving(), True
+        if self.chance(0.03):
+            lines, left = self.statement()
+            return [rng.choice(["# it's {", "// a \"comment", "#"])] + lines, left
         for _ in range(8):
             made = rng.choices([choice for choice, _ in choices], [weight for _, weight in choices])[0]()
             if made is not None:
@@ -553,8 +565,16 @@ class Maker:
         operation = self.rng.choices(["=", "+=", "-=", "*="], [5, 4, 2, 1])[0]
         return [f"{place.text} {operation} {self.number_text()}{self.otherwise(0.3)}"]
 
+    def container(self, wanted):
+        """A place to add to or to take from. A method goes through an own cell by itself."""
+        place = self.place(lambda kind: kind[0] != "shared" and wanted(self.inside(kind)), write=True)
+        if place is not None and place.kind[0] == "own":
+            (root, steps), kind = place.path, place.kind[1]
+            return Place(place.text, kind, (root, steps + (("content",),)), True, False, "content")
+        return place
+
     def push(self):
-        place = self.place(lambda kind: kind == TEXT or kind[0] in SEQUENCES, write=True)
+        place = self.container(lambda kind: kind == TEXT or kind[0] in SEQUENCES)
         if place is None:
             return None
         method, value = "push", ""
@@ -570,7 +590,7 @@ class Maker:
 
     def removed_from(self):
         """A container or text to take something from, and the method."""
-        place = self.place(lambda kind: kind == TEXT or kind[0] in SEQUENCES, write=True)
+        place = self.container(lambda kind: kind == TEXT or kind[0] in SEQUENCES)
         if place is None or not self.removes((place.path, False)):
             return None, None
         self.writes(place)
@@ -675,7 +695,7 @@ class Maker:
 
     def share(self):
         place = self.place(lambda kind: kind[0] == "shared", write=True)
-        if place is None or place.absent:
+        if place is None:
             return None
         source = self.place(lambda kind: kind == place.kind)
         if source is None or not self.removes((place.path, False)):
@@ -685,7 +705,7 @@ class Maker:
 
     def let(self):
         if self.chance(0.2):
-            place = self.place(lambda kind: kind not in (INT,) and kind[0] not in CELLS)
+            place = self.place(lambda kind: kind != INT)
             if place is not None and not place.absent and place.step != "name":
                 name = self.fresh()
                 self.add(Name(name, place.kind, place.path, frozen=place.frozen))
@@ -721,6 +741,40 @@ class Maker:
         self.add(name)
         return [words]
 
+    def filled(self, place):
+        """A statement that puts something into a place, or None."""
+        for _ in range(4):
+            if place is None or place.kind in (INT, TEXT):
+                break
+            if place.kind[0] in SEQUENCES and (place.kind[1] == INT or self.chance(0.3)):
+                value = self.number_text(1) if place.kind[1] == INT else ""
+                return f"{place.text}.push({value}){self.otherwise(0.2)}"
+            place = self.further(place)
+        if place is None or place.frozen or place.kind not in (INT, TEXT):
+            return None
+        value = self.number_text() if place.kind == INT else self.constant_text()
+        return f"{place.text} {self.rng.choice(['=', '+='])} {value}{self.otherwise(0.2)}"
+
+    def publish(self):
+        """Makes an object, fills it, and moves it into an own cell or freezes it."""
+        cell = self.place(lambda kind: kind[0] in CELLS, write=True)
+        if cell is None or any(ends(path, (cell.path, False)) for path in self.protected):
+            return None
+        text, kind = self.fresh(), cell.kind[1]
+        lines = [f"let {text} = new {written(kind)}"]
+        if self.short and not self.fail_stops:
+            lines[0] += " else { stop }"
+        scope, self.scope = self.scope, self.numbers()
+        for _ in range(self.rng.randint(0, 3)):
+            lines.append(self.filled(Place(text, kind, (("owned", text), ()), False)))
+        self.scope = scope
+        if not self.removes((cell.path, False)):
+            return None
+        self.writes(cell)
+        word = "freeze " if cell.kind[0] == "shared" else ""
+        lines.append(f"{word}{cell.text} = {text}{self.otherwise(0.3)}")
+        return [line for line in lines if line]
+
     def take(self):
         place = self.place(lambda kind: kind[0] == "own", write=True)
         if place is None or not self.removes((place.path, False)):
@@ -728,7 +782,7 @@ class Maker:
         self.writes(place)
         text = self.fresh()
         name = Name(text, place.kind[1], (("owned", text), ()), owned=True, loop=self.loop)
-        if self.chance(0.6):
+        if self.chance(0.6) or not self.loop and self.function is None:
             head, code = self.code()
             one, other, left = self.branches(lambda: self.block(4, [name]), lambda: (self.short_block(code), False))
             return self.join(f"if let {text} = take {place.text}", one, head, other), left
@@ -767,6 +821,8 @@ class Maker:
         if place.kind[0] in CELLS:
             root, steps = place.path
             frozen = place.frozen or place.kind[0] == "shared"
+            if place.kind[1] == INT:
+                return place.text, Name(text, INT, settable=True)
             return place.text, Name(text, place.kind[1], (root, steps + (("content",),)), frozen=frozen)
         if not place.absent:
             return None, None
@@ -795,7 +851,7 @@ class Maker:
         return [f"let {name.text} = {source} else {{ {'; '.join(lines)} }}"]
 
     def pushed(self):
-        place = self.place(lambda kind: kind[0] in SEQUENCES and kind[1][0] not in CELLS, write=True)
+        place = self.container(lambda kind: kind[0] in SEQUENCES and kind[1][0] not in CELLS)
         if place is None:
             return None
         method, value, text = "push", "", self.fresh()
@@ -813,13 +869,13 @@ class Maker:
         return self.join(f"if let {text} = {place.text}.{method}({value})", one, head, other), left
 
     def popped(self):
-        place = self.place(lambda kind: kind == TEXT or kind[0] in SEQUENCES and kind[1] == INT, write=True)
+        place = self.container(lambda kind: kind == TEXT or kind[0] in SEQUENCES and kind[1] == INT)
         if place is None or not self.removes((place.path, False)):
             return None
         self.writes(place)
         method = "pop_front" if place.kind[0] == "list" and self.chance(0.5) else "pop"
         name = Name(self.fresh(), INT, settable=True)
-        if self.chance(0.25):
+        if (self.loop or self.function is not None) and self.chance(0.25):
             lines = self.leaving()
             self.add(name)
             return [f"let {name.text} = {place.text}.{method}() else {{ {'; '.join(lines)} }}"]
@@ -852,6 +908,10 @@ class Maker:
     def few(self):
         return self.rng.randint(1, 6) if self.turns < 40 else self.rng.randint(1, 2)
 
+    def limit(self, turns):
+        """The words behind `max`."""
+        return self.rng.choice([str(turns), str(turns), f"{turns} + 0", f"2 * {turns} - {turns}", f"({turns})"])
+
     def range_loop(self):
         text = self.fresh()
         name = Name(text, INT)
@@ -868,7 +928,7 @@ class Maker:
             low, high = self.rng.choice(numbers).text, self.at(1, 1)
             if self.chance(0.3):
                 low, high = "0", low
-            head = f"for {text} in {low}..{high} max {turns}"
+            head = f"for {text} in {low}..{high} max {self.limit(turns)}"
         return self.cut(self.body(turns, 3, [name]), head)
 
     def while_loop(self):
@@ -878,16 +938,22 @@ class Maker:
             test = f"{self.rng.choice(names).text} {self.rng.choice(['<', '>', '!='])} {self.rng.randint(0, 9)}"
         else:
             test = "true" if self.chance(0.3) else self.number_text()
-        return self.cut(self.body(turns, 3), f"while {test} max {turns}")
+        return self.cut(self.body(turns, 3), f"while {test} max {self.limit(turns)}")
 
     def input_loop(self):
         if self.function is not None:
             return None
         text, turns = self.fresh(), self.few()
+        if self.turns == 1 and self.chance(0.1):
+            # the longest input: a turn has 950 steps at most
+            budget, self.budget = self.budget, 1
+            lines = self.body(60, 1, [Name(text, INT)])
+            self.budget = budget
+            return self.cut(lines, f"for {text} in input")
         return self.cut(self.body(turns, 3, [Name(text, INT)]), f"for {text} in input max {turns}")
 
     def container_loop(self):
-        place = self.place(lambda kind: kind == TEXT or kind[0] in SEQUENCES + MAPS and kind[1][0] not in CELLS)
+        place = self.place(lambda kind: kind == TEXT or kind[0] in SEQUENCES + MAPS)
         if place is None:
             return None
         turns, both = self.few(), self.chance(0.5)
@@ -903,20 +969,20 @@ class Maker:
         begin = [number, item] if both else [number] if place.kind[0] in MAPS else [item]
         head = f"for {first}, {second}" if both else f"for {first}"
         lines = self.body(turns, 3, begin, [place.path])
-        return self.cut(lines, f"{head} in {place.text} max {turns}")
+        return self.cut(lines, f"{head} in {place.text} max {self.limit(turns)}")
 
     def use(self):
         """`use` of an object by its own name, or of a place with a name."""
         if self.chance(0.6):
             things = [thing for thing in self.objects if thing.name not in self.held and thing.word != "family"
-                      and not thing.count and thing.kind[0] not in CELLS]
+                      and not thing.count]
             if not things or self.function is not None:
                 return None
             chosen = self.rng.sample(things, 1 if self.chance(0.7) else min(2, len(things)))
             names = [Name(thing.name, thing.kind, (("object", thing.name), ())) for thing in chosen]
             words = "use " + ", ".join(thing.name for thing in chosen)
         else:
-            place = self.place(lambda kind: kind != INT and kind[0] not in CELLS, write=True)
+            place = self.place(lambda kind: kind != INT or self.chance(0.3), write=True)
             if place is None or place.step == "name":
                 return None
             self.writes(place)
@@ -1146,9 +1212,9 @@ class Apart(Exception):
     """What the interpreter prints isn't what was printed."""
 
 
-def explained(programs, given, outcome, most=3000):
-    """Whether the interpreter can do the same if memory is refused at some of its requests. None if that isn't decided
-    after so many runs."""
+def explained(programs, given, outcome, wanted, most=3000):
+    """Whether the interpreter can do the same if memory is refused at some of its requests; then `wanted` gets what it
+    does. None if that isn't decided after so many runs."""
     refused = []
     for _ in range(most):
         at = 0
@@ -1167,6 +1233,7 @@ def explained(programs, given, outcome, most=3000):
             for text in programs:
                 run.program(meaning.parse(text))
             if run.output == outcome.output and sorted(meaning.shown(run.segment)) == outcome.shown:
+                wanted.failed = Counter(run.failed)
                 return True
         except (Apart, meaning.Unsure):
             pass
@@ -1186,7 +1253,7 @@ def difference(tool, programs, given, combination, size):
     if outcome.kind != "ran":
         return outcome, wanted, None if outcome.kind == "limit" else outcome.kind
     if size != SIZE:
-        same = explained(programs, given, outcome)
+        same = explained(programs, given, outcome, wanted)
         return outcome, wanted, "undecided" if same is None else None if same else "no refused memory explains this"
     if outcome.output != wanted.output:
         return outcome, wanted, "the output differs"
