@@ -68,7 +68,7 @@ class World:
                     fields[0] = ("a0", INT)
                 self.structs[name] = fields
             self.objects = [self.object(number) for number in range(rng.randint(4, 9))]
-            uniques = [thing.kind for thing in self.objects if thing.word == "unique"]
+            uniques = [self.shape(thing.kind, 4) for thing in self.objects if thing.word == "unique"]
             if len(self.types()) <= MOST_TYPES and len(uniques) == len(set(uniques)):
                 break
 
@@ -98,6 +98,10 @@ class World:
             return (word, rng.choice([INT, TEXT, ("list", INT), ("map", TEXT), ("map", INT)]))
         # an item may be a struct that isn't declared yet, since it is behind a pointer
         return (word, self.type(depth - 1, names, names))
+
+    def shape(self, kind, depth):
+        """A type without names, to a depth. Two unique objects of the same shape are one object."""
+        return (kind[0], *(self.shape(part, depth - 1) for part in self.parts(kind))) if depth else kind[0]
 
     def parts(self, kind):
         if kind[0] == "struct":
@@ -169,7 +173,7 @@ def ends(path, removal):
 
 LITERALS = ["0", "1", "2", "3", "4", "7", "10", "255", "256", "1_000", "0x7f", "'a'", "'\\n'", "true", "false"]
 LARGE = ["9223372036854775807", "2147483647", "2147483648", "4294967296", "1_000_000_007", "0x7fff_ffff_ffff"]
-PIECES = ["", "a", "bc", "x y", "n=", "end", "\\n", "\\t", "\\x01", "\\\"", "\\\\", "é", "#", "//", "0"]
+PIECES = ["", "a", "bc", "x y", "n=", "end", "\\n", "\\t", "\\x01", "\\xff", "\\\"", "\\\\", "é", "#", "//", "0"]
 
 
 class Maker:
@@ -180,7 +184,7 @@ class Maker:
         self.names, self.in_key = 0, False
         self.functions, self.constants, self.texts = [], [], []
         self.objects = [thing for thing in world.objects if rng.random() < 0.8] or world.objects[:1]
-        self.budget = rng.randint(6, 26)
+        self.budget, self.deepest = rng.randint(6, 26), rng.choice([1, 2, 2, 3, 3, 4])
         self.begin()
 
     def begin(self, parameters=()):
@@ -374,9 +378,12 @@ class Maker:
         other = self.rng.choice(["0", "1", "-1", "7"]) if self.chance(0.85) else self.at(6, 1)
         return (f"{text} ?? {other}", 6)
 
-    def constant_text(self):
+    def constant_text(self, long=False):
         if self.texts and self.chance(0.2):
             return self.rng.choice(self.texts)
+        if long and self.chance(0.01):
+            # a constant of a client has 255 bytes
+            return '"' + "long text " * self.rng.randint(25, 60) + '"'
         return '"' + "".join(self.rng.choice(PIECES) for _ in range(self.rng.randint(1, 2))) + '"'
 
     def called(self, number):
@@ -515,12 +522,12 @@ class Maker:
         simple = [
             (self.print_items, 9), (self.set_number, 7), (self.set_place, 12), (self.push, 7), (self.pop, 4),
             (self.set_text, 6), (self.delete, 4), (self.clear, 2), (self.move, 4), (self.share, 2), (self.let, 6),
-            (self.call, 3), (self.freeze, 3)]
+            (self.call, 3), (self.freeze, 3), (self.fill, 6)]
         nested = [
             (self.condition, 6), (self.lookup, 9), (self.pushed, 4), (self.popped, 3),
             (self.lookup_or_leave, 1 if outside else 3), (self.range_loop, 4), (self.container_loop, 5),
             (self.input_loop, 2), (self.while_loop, 3), (self.use, 4), (self.new, 3), (self.publish, 6), (self.take, 3)]
-        choices = simple + (nested if self.deep < (4 if self.chance(0.4) else 3) else [])
+        choices = simple + (nested if self.deep < self.deepest else [])
         if self.deep > 1 and self.chance(0.06):
             return self.leaving(), True
         if self.chance(0.03):
@@ -537,7 +544,7 @@ class Maker:
         for _ in range(self.rng.choices([0, 1, 2, 3], [1, 6, 4, 2])[0]):
             choice = self.rng.random()
             if choice < 0.35:
-                items.append(self.constant_text())
+                items.append(self.constant_text(True))
             elif choice < 0.55:
                 place = self.place(lambda kind: kind == TEXT)
                 items.append(place.text if place else self.constant_text())
@@ -608,7 +615,7 @@ class Maker:
         for at in range(1 if self.short else self.rng.choices([1, 2, 3], [4, 3, 1])[0]):
             choice = self.rng.random()
             if choice < 0.5 or self.short and choice < 0.8:
-                items.append(self.constant_text())
+                items.append(self.constant_text(not self.short))
             elif choice < 0.65 and not limit and not self.short:
                 other = self.place(lambda kind: kind == TEXT)
                 if other is None or self.related(other, place):
@@ -755,6 +762,14 @@ class Maker:
         value = self.number_text() if place.kind == INT else self.constant_text()
         return f"{place.text} {self.rng.choice(['=', '+='])} {value}{self.otherwise(0.2)}"
 
+    def fill(self):
+        """Puts something into an object or into what a name refers to."""
+        place = self.root()
+        statement = self.filled(place) if place is not None and not place.frozen else None
+        if statement is not None:
+            self.writes(place)
+        return [statement] if statement else None
+
     def publish(self):
         """Makes an object, fills it, and moves it into an own cell or freezes it."""
         cell = self.place(lambda kind: kind[0] in CELLS, write=True)
@@ -794,17 +809,23 @@ class Maker:
         if self.chance(0.5):
             lines, _, _ = self.branches(lambda: self.block(3), lambda: ([], False))
             return self.join(f"if {test}", lines)
-        if self.chance(0.25):
-            again = []
+        lines, others, left = self.branches(lambda: self.block(3), self.alternatives)
+        return self.join(f"if {test}", lines, *others), left
 
-            def chain():
-                again.append(self.number_text(1))
-                one, other, left = self.branches(lambda: self.block(2), lambda: self.block(2))
-                return (one, other), left
-            lines, (one, other), left = self.branches(lambda: self.block(3), chain)
-            return self.join(f"if {test}", lines, f"else if {again[0]}", one, "else", other), left
-        one, other, left = self.branches(lambda: self.block(3), lambda: self.block(3))
-        return self.join(f"if {test}", one, "else", other), left
+    def alternatives(self):
+        """Else parts, as heads and blocks, and whether all of them leave."""
+        choice = self.rng.random()
+        if choice < 0.2:
+            test = self.number_text(1)
+            lines, others, left = self.branches(lambda: self.block(2), self.alternatives)
+            return [f"else if {test}", lines, *others], left
+        if choice < 0.35:
+            source, name = self.looked_up()
+            if source is not None:
+                lines, others, left = self.branches(lambda: self.block(2, [name]), self.alternatives)
+                return [f"else if let {name.text} = {source}", lines, *others], left
+        lines, left = self.block(3)
+        return ["else", lines], left
 
     def looked_up(self):
         """A lookup that may fail: its text, and the name of what it finds."""
@@ -838,6 +859,9 @@ class Maker:
         if self.chance(0.4):
             one, _, _ = self.branches(lambda: self.block(4, [name]), lambda: ([], False))
             return self.join(f"if let {name.text} = {source}", one)
+        if self.chance(0.2):
+            one, others, left = self.branches(lambda: self.block(4, [name]), self.alternatives)
+            return self.join(f"if let {name.text} = {source}", one, *others), left
         one, other, left = self.branches(lambda: self.block(4, [name]),
                                          lambda: self.block(2, [code] if code else [], self.short_block(code)))
         return self.join(f"if let {name.text} = {source}", one, head, other), left
@@ -1038,7 +1062,8 @@ class Maker:
         self.fail, self.fail_stops = None, False
         if self.short or self.chance(0.7):
             self.fail_stops = self.chance(0.5 if self.short else 0.15)
-            self.fail = ['print "no room"'] + (["stop"] if self.fail_stops else [])
+            words = f', " ", {self.read()[0]}' if self.chance(0.15) else ""
+            self.fail = [f'print "no room"{words}'] + (["stop"] if self.fail_stops else [])
         declarations = []
         for name, fields in self.world.structs.items():
             words = ", ".join(f"{field}: {written(kind)}" for field, kind in fields)
@@ -1063,6 +1088,8 @@ class Maker:
             rng.shuffle(declarations)
         lines.append(f'print "@@{self.number}"')
         left = False
+        for _ in range(rng.choice([0, 0, 2, 4])):
+            lines += self.fill() or []
         while self.budget > 0 and not left:
             made, left = self.statement()
             lines += made
@@ -1078,7 +1105,7 @@ class Maker:
 
 
 LIMITS = re.compile(r"more than 16 numbers and references|more than 8 parts would be open|instructions, and 4,?096 are "
-                    r"the limit|constants are needed|more than 32 types|could take [\d,]+ steps")
+                    r"the limit|far more than 4,096 instructions|constants are needed|more than 32 types|could take [\d,]+ steps")
 HEADER = re.compile(rb"(?P<file>[^\n]*?):(?P<line>\d+):(?P<column>\d+): (?P<kind>error|warning): (?P<text>[^\n]+)")
 
 
