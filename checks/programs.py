@@ -44,13 +44,15 @@ def written(kind):
 
 
 class Object:
+    """An object, a family or a unique object. `count` is the length of an array, `exact` the name in the segment."""
+
     def __init__(self, name, word, kind, count=None, exact=None):
         self.name, self.word, self.kind, self.count, self.exact = name, word, kind, count, exact
 
-    def declaration(self, kind=None):
+    def declaration(self):
         count = f"[{self.count}]" if self.count else ""
         exact = f' as "{self.exact}"' if self.exact else ""
-        return f"{self.word} {self.name}{count}: {written(kind or self.kind)}{exact}"
+        return f"{self.word} {self.name}{count}: {written(self.kind)}{exact}"
 
 
 class World:
@@ -133,15 +135,19 @@ class Name:
 
 
 class Place:
-    def __init__(self, text, kind, path, absent, frozen=False, step=None):
-        self.text, self.kind, self.path, self.absent, self.frozen = text, kind, path, absent, frozen
-        self.step = step  # the kind of its last step: `name`, `object`, `field`, `item` or `key`
+    """An expression for a place. `absent` tells whether it may be absent, `bare` whether it is only a local name."""
+
+    def __init__(self, text, kind, path, absent, frozen=False, bare=False):
+        self.text, self.kind, self.path, self.absent, self.frozen, self.bare = text, kind, path, absent, frozen, bare
 
 
 class Function:
+    """A function: the types of its parameters, whether it returns a number, what it removes, and the numbers of the
+    parameters that it changes."""
+
     def __init__(self, name, parameters, gives):
-        self.name, self.parameters, self.gives = name, parameters, gives  # parameters: a type each
-        self.removals, self.written, self.stops = [], set(), False
+        self.name, self.parameters, self.gives = name, parameters, gives
+        self.removals, self.written = [], set()
 
 
 def meets(one, other):
@@ -187,9 +193,10 @@ class Maker:
         self.budget, self.deepest = rng.randint(6, 26), rng.choice([1, 2, 2, 3, 3, 4])
         self.begin()
 
-    def begin(self, parameters=()):
-        """Forgets the local names, for the body of a function or of the program."""
-        self.scope, self.every, self.protected = list(parameters), list(parameters), []
+    def begin(self):
+        """Forgets the local names, for the body of a function or of the program. `scope` are the names that can be used,
+        `every` all names so far, `protected` the paths that nothing may remove, and `held` the objects of a `use`."""
+        self.scope, self.every, self.protected = [], [], []
         self.held, self.loop, self.function, self.turns, self.deep = {}, 0, None, 1, 0
 
     def chance(self, likely):
@@ -217,14 +224,13 @@ class Maker:
             return None
         found = self.rng.choice(names + names + things)
         if isinstance(found, Name):
-            return Place(found.text, found.kind, found.path, False, found.frozen, "name")
+            return Place(found.text, found.kind, found.path, False, found.frozen, True)
         if found.word == "family":
             text, key = self.key()
-            return Place(f"{found.name}[{text}]", found.kind, (("family", found.name, key), ()), True, False, "object")
+            return Place(f"{found.name}[{text}]", found.kind, (("family", found.name, key), ()), True)
         path = (("object", found.name), ())
-        if found.count:
-            return Place(f"{found.name}[{self.key(found.count)[0]}]", found.kind, path, True, False, "value")
-        return Place(found.name, found.kind, path, True, False, "object")
+        text = f"{found.name}[{self.key(found.count)[0]}]" if found.count else found.name
+        return Place(text, found.kind, path, True)
 
     def key(self, most=4):
         """A key or an index: its text, and its number if it is constant."""
@@ -242,7 +248,7 @@ class Maker:
         self.in_key = False
         return text, None
 
-    def place(self, wanted, write=False, alone=False):
+    def place(self, wanted, write=False):
         """A random place whose type is wanted, or None. With `write` it isn't in a frozen object."""
         for _ in range(12):
             place = self.root()
@@ -251,7 +257,7 @@ class Maker:
             for _ in range(5):
                 if place.frozen and write:
                     break
-                if wanted(place.kind) and (not alone or place.step in alone) and self.chance(0.7):
+                if wanted(place.kind) and self.chance(0.7):
                     return place
                 place = self.further(place)
                 if place is None:
@@ -266,11 +272,10 @@ class Maker:
             kind, steps, absent = kind[1], steps + (("content",),), True
         if kind[0] == "struct":
             field, part = self.rng.choice(self.world.structs[kind[1]])
-            return Place(f"{text}.{field}", part, (root, steps + (("field", field),)), absent, frozen, "field")
+            return Place(f"{text}.{field}", part, (root, steps + (("field", field),)), absent, frozen)
         if kind[0] in SEQUENCES + MAPS:
-            written_key, key = self.key()
-            return Place(f"{text}[{written_key}]", kind[1], (root, steps + (("key", key),)), True, frozen,
-                         "key" if kind[0] in MAPS else "item")
+            key_text, key = self.key()
+            return Place(f"{text}[{key_text}]", kind[1], (root, steps + (("key", key),)), True, frozen)
         return None
 
     def removes(self, removal):
@@ -388,7 +393,7 @@ class Maker:
 
     def called(self, number):
         """A call of a function, in an expression or alone."""
-        function = next(iter(self.rng.sample(self.functions, 1)), None) if self.functions else None
+        function = self.rng.choice(self.functions) if self.functions else None
         if function is None or number and (not function.gives or function.removals):
             return None
         values, paths, given = [], {}, []
@@ -577,7 +582,7 @@ class Maker:
         place = self.place(lambda kind: kind[0] != "shared" and wanted(self.inside(kind)), write=True)
         if place is not None and place.kind[0] == "own":
             (root, steps), kind = place.path, place.kind[1]
-            return Place(place.text, kind, (root, steps + (("content",),)), True, False, "content")
+            return Place(place.text, kind, (root, steps + (("content",),)), True)
         return place
 
     def push(self):
@@ -624,16 +629,17 @@ class Maker:
                 limit = f" max {self.rng.choice([1, 3, 20])}"
             else:
                 # the number doesn't look at what the statement makes
-                items.append(self.apart_from(place))
+                items.append(self.local_number())
         self.writes(place)
         return [f"{place.text} {self.rng.choice(['=', '+='])} {', '.join(items)}{limit}{self.otherwise(0.3)}"]
 
     def related(self, one, other):
         """Whether two places may lie in the same object."""
-        unknown = ("parameter",)
-        return one.path[0][:2] == other.path[0][:2] or one.path[0][0] in unknown or other.path[0][0] in unknown
+        roots = one.path[0], other.path[0]
+        return roots[0][:2] == roots[1][:2] or "parameter" in (roots[0][0], roots[1][0])
 
-    def apart_from(self, place):
+    def local_number(self):
+        """A number that doesn't depend on the segment."""
         numbers = self.numbers()
         first = self.rng.choice(numbers).text if numbers and self.chance(0.7) else self.rng.choice(LITERALS)
         return first if self.chance(0.5) else f"{first} {self.rng.choice('+-*')} {self.rng.randint(0, 9)}"
@@ -713,7 +719,7 @@ class Maker:
     def let(self):
         if self.chance(0.2):
             place = self.place(lambda kind: kind != INT)
-            if place is not None and not place.absent and place.step != "name":
+            if place is not None and not place.absent and not place.bare:
                 name = self.fresh()
                 self.add(Name(name, place.kind, place.path, frozen=place.frozen))
                 return [f"let {name} = {place.text}"]
@@ -962,7 +968,9 @@ class Maker:
             test = f"{self.rng.choice(names).text} {self.rng.choice(['<', '>', '!='])} {self.rng.randint(0, 9)}"
         else:
             test = "true" if self.chance(0.3) else self.number_text()
-        return self.cut(self.body(turns, 3), f"while {test} max {self.limit(turns)}")
+        # the test is repeated after each turn
+        paths = [name.path for name in self.scope if name.path is not None and name.alive]
+        return self.cut(self.body(turns, 3, (), paths), f"while {test} max {self.limit(turns)}")
 
     def input_loop(self):
         if self.function is not None:
@@ -1007,7 +1015,7 @@ class Maker:
             words = "use " + ", ".join(thing.name for thing in chosen)
         else:
             place = self.place(lambda kind: kind != INT or self.chance(0.3), write=True)
-            if place is None or place.step == "name":
+            if place is None or place.bare:
                 return None
             self.writes(place)
             names, chosen = [Name(self.fresh(), place.kind, place.path)], []
@@ -1058,7 +1066,7 @@ class Maker:
         return self.join(f"fn {function.name}({head})" + (" -> int" if function.gives else ""), lines)
 
     def program(self):
-        rng, lines = self.rng, []
+        rng = self.rng
         self.fail, self.fail_stops = None, False
         if self.short or self.chance(0.7):
             self.fail_stops = self.chance(0.5 if self.short else 0.15)
@@ -1086,19 +1094,19 @@ class Maker:
             declarations.append(self.join("fail", self.fail))
         if self.chance(0.3):
             rng.shuffle(declarations)
-        lines.append(f'print "@@{self.number}"')
-        left = False
+        parts = [[f'print "@@{self.number}"']]
         for _ in range(rng.choice([0, 0, 2, 4])):
-            lines += self.fill() or []
+            parts.append(self.fill() or [])
+        left = False
         while self.budget > 0 and not left:
             made, left = self.statement()
-            lines += made
+            parts.append(made)
         if self.chance(0.2):
-            at = 0 if self.chance(0.5) else len(lines)
-            lines[at:at] = [line for declaration in declarations for line in declaration]
+            for declaration in declarations:
+                parts.insert(rng.randrange(len(parts) + 1), declaration)
         else:
-            lines = [line for declaration in declarations for line in declaration] + lines
-        return "\n".join(lines) + "\n"
+            parts = declarations + parts
+        return "".join(line + "\n" for part in parts for line in part)
 
 
 # ---- running programs
@@ -1371,7 +1379,7 @@ def smaller(tool, programs, given, combination, size, outcome, differs, most=300
             done = set()
             while True:
                 text = programs[number]
-                for other in sorted(reductions(text), key=len):
+                for other in sorted(reductions(text), key=lambda other: (len(other), other)):
                     if other not in done:
                         done.add(other)
                         others = programs[:number] + [other] + programs[number + 1:]
