@@ -194,8 +194,8 @@ class Maker:
         self.begin()
 
     def begin(self):
-        """Forgets the local names, for the body of a function or of the program. `scope` are the names that can be used,
-        `every` all names so far, `protected` the paths that nothing may remove, and `held` the objects of a `use`."""
+        """Forgets the local names, for the body of a function or of the program. `scope` are the names that can be
+        used, `every` all names so far, `protected` the paths that nothing may remove, and `held` objects of a `use`."""
         self.scope, self.every, self.protected = [], [], []
         self.held, self.loop, self.function, self.turns, self.deep = {}, 0, None, 1, 0
 
@@ -1112,8 +1112,9 @@ class Maker:
 # ---- running programs
 
 
-LIMITS = re.compile(r"more than 16 numbers and references|more than 8 parts would be open|instructions, and 4,?096 are "
-                    r"the limit|far more than 4,096 instructions|constants are needed|more than 32 types|could take [\d,]+ steps")
+LIMITS = re.compile(r"more than 16 numbers and references|more than 8 parts would be open|more than 32 types|"
+                    r"instructions, and 4,?096 are the limit|far more than 4,096 instructions|constants are needed|"
+                    r"could take [\d,]+ steps")
 HEADER = re.compile(rb"(?P<file>[^\n]*?):(?P<line>\d+):(?P<column>\d+): (?P<kind>error|warning): (?P<text>[^\n]+)")
 
 
@@ -1424,8 +1425,8 @@ def report(tool, seed, combination, programs, given, size, differs):
 
 CONTROL = re.compile(r"[\x00-\x08\x0b-\x1f\x7f-\x9f]")
 ODD = [b"\xff", b"\xc3", b"\xed\xa0\x80", b"\xc0\x80", b"\xf4\x90\x80\x80", b"\xef\xbb\xbf", b"\x00", b"\x1b[31m",
-       b"\x07", b"\r", b"\t", b"\x7f", b"\xc2\x9b", b"\xe2\x80\xae", b"\\", b'"', b"'", b"{", b"}", b"(", b")", b"#", b"\n",
-       "é".encode(), "𝛌".encode()]
+       b"\x07", b"\r", b"\t", b"\x7f", b"\xc2\x9b", b"\xe2\x80\xae", b"\\", b'"', b"'", b"{", b"}", b"(", b")",
+       b"#", b"\n", "é".encode(), "𝛌".encode()]
 NESTS = [
     (b"(", b"1", b")"), (b"-(", b"1", b")"), (b"!", b"1", b""), (b"- ", b"1", b""), (b"if 1 {\n", b"print 1", b"}\n"),
     (b"{", b"", b"}"), (b"m[", b"0", b"]"), (b"m[0] ?? ", b"0", b""), (b"1 + ", b"1", b""), (b"1 * (", b"1", b")"),
