@@ -18,6 +18,7 @@ import resource
 import subprocess
 import sys
 import tempfile
+import threading
 import time
 from collections import Counter
 from pathlib import Path
@@ -27,7 +28,7 @@ import program_meaning as meaning
 ROOT = Path(__file__).resolve().parent.parent
 COMBINATIONS = [("seq", "flat"), ("best", "tree"), ("seq", "tree"), ("best", "flat")]
 SESSION = 10  # programs that run on one image
-SIZE, SHORT_SIZES = 1 << 18, (1024, 1536, 2048, 3072)
+SIZE, SHORT_SIZES = 1 << 18, (1024, 1536, 2048, 3072, 4096)
 MOST_TYPES = 28
 
 INT, TEXT = ("int",), ("text",)
@@ -1142,6 +1143,24 @@ class Tool:
                               stderr=subprocess.PIPE, stdin=subprocess.DEVNULL, close_fds=False, timeout=timeout,
                               check=False)
 
+    def told(self, *words, timeout=60, most=1 << 24):
+        """The status of a command, or None if it took too long or told too much, what it told, and whether it printed
+        something."""
+        with open(self.room / "printed", "wb") as printed:
+            process = subprocess.Popen([self.path, *words], cwd=self.room, stdin=subprocess.DEVNULL, stdout=printed,
+                                       stderr=subprocess.PIPE, close_fds=False)
+            timer = threading.Timer(timeout, process.kill)
+            timer.start()
+            told = process.stderr.read(most)
+            ended = len(told) < most
+            if not ended:
+                process.kill()
+            process.stderr.close()
+            process.wait()
+            ended = ended and timer.is_alive()
+            timer.cancel()
+        return process.returncode if ended else None, told, os.path.getsize(self.room / "printed") > 0
+
     def image(self, combination, size):
         if (combination, size) not in self.images:
             name = f"{'-'.join(combination)}-{size}.image"
@@ -1181,7 +1200,7 @@ class Tool:
             texts = [match["text"].decode() for match in errors]
             kind = "limit" if all(map(LIMITS.search, texts)) else "rejected"
             return Outcome(kind, int(errors[0]["file"].split(b".")[0]), "\n".join(texts))
-        if ran.returncode == 1 and "fault 22" in text or "fault 23" in text:
+        if ran.returncode == 1 and re.search(r"fault 2[23]\b", text):
             return Outcome("refused", None, text)
         return Outcome("broken", None, f"status {ran.returncode}\n{text}")
 
@@ -1192,7 +1211,8 @@ class Tool:
             key = (text, str(types))
             if key not in self.known:
                 try:
-                    self.known[key] = self.compiler.compile(text, types)
+                    made = self.compiler.compile(text, types)
+                    self.known[key] = (made.text, [[kind, list(parts)] for kind, parts in made.table.l])
                 except self.compiler.Bad as bad:
                     kind = "limit" if LIMITS.search(bad.text) else "rejected"
                     self.known[key] = Outcome(kind, number, bad.text)
@@ -1201,9 +1221,9 @@ class Tool:
             made = self.known[key]
             if isinstance(made, Outcome):
                 return Outcome(made.kind, number, made.text), None
-            types = [[kind, list(parts)] for kind, parts in made.table.l]
+            client, types = made[0], [[kind, list(parts)] for kind, parts in made[1]]
             clients.append(f"{number}.client")
-            (self.room / "client.text").write_text(made.text, encoding="latin-1")
+            (self.room / "client.text").write_text(client, encoding="latin-1")
             assembled = self.call("asm", "client.text", clients[-1], "--force")
             if assembled.returncode:
                 return Outcome("broken", number, f"asm: {assembled.stderr.decode()}"), None
@@ -1236,9 +1256,7 @@ class Wanted:
 
     def __init__(self, programs, given):
         run = meaning.Run(meaning.Segment(), given)
-        self.starts = []
         for text in programs:
-            self.starts.append(len(run.output))
             run.program(meaning.parse(text))
         self.output, self.shown = bytes(run.output), sorted(meaning.shown(run.segment))
         self.failed, self.turns = Counter(run.failed), run.turns
@@ -1319,8 +1337,9 @@ def session(seed, short):
 
 
 def try_session(seed):
-    """Runs a session. Returns counts, and a failure in words or None."""
+    """Runs a session. Returns the seed, counts, and failures in words."""
     options, tool, counts = STATE["options"], STATE["tool"], Counter()
+    tool.known.clear()
     programs, given = session(seed, options.short)
     combination = COMBINATIONS[seed % len(COMBINATIONS)]
     size = SHORT_SIZES[seed // len(COMBINATIONS) % len(SHORT_SIZES)] if options.short else SIZE
@@ -1336,6 +1355,7 @@ def try_session(seed):
         if differs == "undecided":
             counts["undecided"] += 1
         elif differs:
+            counts[differs] += 1
             small = smaller(tool, programs, given, combination, size, outcome, differs)
             found.append(report(tool, seed, combination, *small))
             if outcome.program is not None:
@@ -1345,9 +1365,8 @@ def try_session(seed):
             counts["failed"] += len(programs)
             break
         counts["programs"] += len(programs)
-        counts["stopped or at the end"] += outcome.output.count(b"@@")
         for code, number in wanted.failed.items():
-            counts[f"failed with code {code}"] += number
+            counts[f"else parts with code {code}"] += number
         break
     return seed, counts, found
 
@@ -1380,7 +1399,8 @@ def smaller(tool, programs, given, combination, size, outcome, differs, most=300
             done = set()
             while True:
                 text = programs[number]
-                for other in sorted(reductions(text), key=lambda other: (len(other), other)):
+                others = reductions(text, outcome.kind == "rejected")
+                for other in sorted(others, key=lambda other: (len(other), other)):
                     if other not in done:
                         done.add(other)
                         others = programs[:number] + [other] + programs[number + 1:]
@@ -1392,12 +1412,22 @@ def smaller(tool, programs, given, combination, size, outcome, differs, most=300
     return programs, given, size, differs
 
 
-def reductions(text):
+DECLARES = re.compile(r"(?:let|const|struct|object|family|unique|fn) (\w+)|use (?:.* as )?(\w+)")
+
+
+def reductions(text, careful):
     """The program with one statement, declaration or else part less, or with a statement replaced by one of its
-    blocks."""
+    blocks. A name that is used keeps its declaration. `careful` does only what gives no new errors."""
     tree = meaning.parse(text)
-    found = {text[:start] + text[end:] for start, end in tree.statements + tree.others}
+    found = set()
     for start, end in tree.statements:
+        rest = text[:start] + text[end:]
+        declared = DECLARES.match(text, start)
+        if not declared or not re.search(rf"\b{declared[1] or declared[2]}\b", rest):
+            found.add(rest)
+    if not careful:
+        found |= {text[:start] + text[end:] for start, end in tree.others}
+    for start, end in [] if careful else tree.statements:
         for first, last in tree.blocks:
             if start < first and last < end:
                 found.add(text[:start] + text[first:last] + text[end:])
@@ -1550,7 +1580,7 @@ def told_wrong(data, told, status):
 
 
 def try_damaged(seed):
-    """Compiles a hundred damaged programs. Returns counts and failures in words."""
+    """Compiles a hundred damaged programs. Returns the seed, counts, and failures in words."""
     tool, counts, found = STATE["tool"], Counter(), []
     rng = random.Random(seed)
     texts = [path.read_bytes() for path in sorted((ROOT / "examples").glob("*.lez"))]
@@ -1562,26 +1592,21 @@ def try_damaged(seed):
         program.write_bytes(data)
         client.unlink(missing_ok=True)
         before = resource.getrusage(resource.RUSAGE_CHILDREN)
-        try:
-            ran = tool.call("compile", program.name, client.name, timeout=60)
-        except subprocess.TimeoutExpired:
-            ran = None
+        status, told, printed = tool.told("compile", program.name, client.name)
         after = resource.getrusage(resource.RUSAGE_CHILDREN)
         took = after.ru_utime + after.ru_stime - before.ru_utime - before.ru_stime
         counts["programs"] += 1
         counts["milliseconds"] += int(took * 1000)
-        if ran is None:
-            wrong = "it takes more than a minute"
-        elif ran.returncode not in (0, 1):
-            wrong = f"status {ran.returncode}: {ran.stderr[:300]!r}"
+        if status is None:
+            wrong = f"it takes more than a minute, or tells more than 16 MB; {len(told)} bytes"
+        elif status not in (0, 1):
+            wrong = f"status {status}: {told[:300]!r}"
         elif took > 2:
             wrong = f"it takes {took:.1f} seconds"
         else:
-            wrong = told_wrong(data, ran.stderr, ran.returncode)
-            counts["compiled" if ran.returncode == 0 else "refused in words"] += 1
-        if ran is not None and ran.stdout:
-            wrong = wrong or "it prints something"
-        if wrong is None and ran.returncode == 0:
+            wrong = "it prints something" if printed else told_wrong(data, told, status)
+            counts["compiled" if status == 0 else "reported"] += 1
+        if wrong is None and status == 0:
             verified = tool.call("verify", tool.image(COMBINATIONS[0], SIZE), client.name)
             if verified.returncode:
                 wrong = f"the verifier refuses its client: {verified.stderr.decode()}"
