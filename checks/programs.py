@@ -758,7 +758,7 @@ class Maker:
     def filled(self, place):
         """A statement that puts something into a place, or None."""
         for _ in range(4):
-            if place is None or place.kind in (INT, TEXT):
+            if place is None or place.frozen or place.kind in (INT, TEXT):
                 break
             if place.kind[0] in SEQUENCES and (place.kind[1] == INT or self.chance(0.3)):
                 value = self.number_text(1) if place.kind[1] == INT else ""
@@ -1031,7 +1031,8 @@ class Maker:
             one, other, left = self.branches(inside, lambda: (self.short_block(code), False))
             self.held = held
             return self.join(words, one, head, other) if head else self.join(words, one), left
-        if self.chance(0.4) or self.short and not self.fail_stops:
+        if self.chance(0.4) or self.short and not self.fail_stops or self.function is not None:
+            # without it the rest of a function's block, with its return, might be left out
             words += f" else {{ {'; '.join(self.leaving())} }}"
         for name in names:
             self.add(name)
@@ -1330,7 +1331,7 @@ def session(seed, short):
             Wanted(programs + [text], given)
         except meaning.Unsure as unsure:
             if "too long" not in str(unsure):
-                raise SystemExit(f"seed {seed}, program {number}: {unsure}\n{text}") from None
+                raise meaning.Unsure(f"seed {seed}, program {number}: {unsure}\n{text}") from None
             continue
         programs.append(text)
     return programs, given
@@ -1340,7 +1341,10 @@ def try_session(seed):
     """Runs a session. Returns the seed, counts, and failures in words."""
     options, tool, counts = STATE["options"], STATE["tool"], Counter()
     tool.known.clear()
-    programs, given = session(seed, options.short)
+    try:
+        programs, given = session(seed, options.short)
+    except meaning.Unsure as unsure:
+        return seed, counts, [str(unsure)]
     combination = COMBINATIONS[seed % len(COMBINATIONS)]
     size = SHORT_SIZES[seed // len(COMBINATIONS) % len(SHORT_SIZES)] if options.short else SIZE
     found = []
