@@ -9,6 +9,7 @@ and the objects that they leave with `program_meaning.py`. With `--short` the im
 `damaged` changes the bytes of programs; `segtool compile` has to report an error for each, or to write a client that
 the verifier accepts. A failure is printed with what repeats it."""
 import argparse
+import copy
 import importlib.util
 import multiprocessing
 import os
@@ -1171,24 +1172,24 @@ class Tool:
             self.images[combination, size] = name
         return self.images[combination, size]
 
-    def run(self, programs, given, combination, size):
-        image = self.image(combination, size)
+    def run(self, programs, given, image, out="out.image"):
+        """Runs programs on an image."""
         (self.room / "input").write_bytes(given)
         clients = []
         for number, text in enumerate(programs):
             clients.append(f"{number}.lez")
             (self.room / clients[-1]).write_text(text, encoding="utf-8")
         if self.compiler:
-            refusal, clients = self.compiled(programs)
+            refusal, clients = self.compiled(programs, image)
             if refusal:
                 return refusal
         try:
-            ran = self.call("run", image, "out.image", *clients, "--input", "input")
+            ran = self.call("run", image, out, *clients, "--input", "input")
         except subprocess.TimeoutExpired:
             return Outcome("broken", None, "it takes more than a minute")
         if ran.returncode:
             return self.failed(ran)
-        shown = self.call("show", "out.image", "--all")
+        shown = self.call("show", out, "--all")
         if shown.returncode:
             return Outcome("broken", None, f"show: {shown.stderr.decode()}")
         return Outcome("ran", output=ran.stdout, shown=objects_of(shown.stdout.decode()))
@@ -1205,9 +1206,9 @@ class Tool:
             return Outcome("refused", None, text)
         return Outcome("broken", None, f"status {ran.returncode}\n{text}")
 
-    def compiled(self, programs):
+    def compiled(self, programs, image):
         """The prototype's clients of programs, or why there are none."""
-        types, clients = [], []
+        types, clients = self.compiler.table_of(self.room / image), []
         for number, text in enumerate(programs):
             key = (text, str(types))
             if key not in self.known:
@@ -1267,9 +1268,16 @@ class Apart(Exception):
     """What the interpreter prints isn't what was printed."""
 
 
-def explained(programs, given, outcome, wanted, most=3000):
-    """Whether the interpreter can do the same if memory is refused at some of its requests; then `wanted` gets what it
-    does. None if that isn't decided after so many runs."""
+def ranked(shown):
+    """Objects with the numbers of frozen objects counted from 0: how many were made before isn't known."""
+    numbers = sorted({int(number) for lines in shown for line in lines for number in re.findall(r"frozen (\d+)", line)})
+    ranks = {str(number): f"frozen {rank}" for rank, number in enumerate(numbers)}
+    return [[re.sub(r"frozen (\d+)", lambda match: ranks[match[1]], line) for line in lines] for lines in shown]
+
+
+def explained(text, given, segment, outcome, most=3000):
+    """The run of a program that does the same as `outcome`, if memory is refused at some of its requests. False if
+    there is none, None if that isn't decided after so many runs."""
     refused = []
     for _ in range(most):
         at = 0
@@ -1283,13 +1291,12 @@ def explained(programs, given, outcome, wanted, most=3000):
                 refused.append(False)
             if refused[at - 1]:
                 raise meaning.Failed(meaning.NO_MEMORY)
-        run = meaning.Run(meaning.Segment(), given, allocate)
+        run = meaning.Run(copy.deepcopy(segment), given, allocate)
         try:
-            for text in programs:
-                run.program(meaning.parse(text))
-            if run.output == outcome.output and sorted(meaning.shown(run.segment)) == outcome.shown:
-                wanted.failed = Counter(run.failed)
-                return True
+            run.program(meaning.parse(text))
+            if run.output == outcome.output:
+                if ranked(sorted(meaning.shown(run.segment))) == ranked(outcome.shown):
+                    return run
         except (Apart, meaning.Unsure):
             pass
         del refused[at:]
@@ -1301,15 +1308,33 @@ def explained(programs, given, outcome, wanted, most=3000):
     return None
 
 
+def short_difference(tool, programs, given, image):
+    """As `difference`, on a small image. Runs one program after the other."""
+    wanted, segment = Wanted(programs, given), meaning.Segment()
+    wanted.failed.clear()
+    for number, text in enumerate(programs):
+        out = f"short-{number}.image"
+        outcome = tool.run([text], given, image, out)
+        if outcome.kind != "ran":
+            outcome.program = number
+            return outcome, wanted, None if outcome.kind == "limit" else outcome.kind
+        run = explained(text, given, segment, outcome)
+        if not run:
+            return outcome, wanted, "undecided" if run is None else "no refused memory explains this"
+        wanted.failed += Counter(run.failed)
+        segment, image = run.segment, out
+    return outcome, wanted, None
+
+
 def difference(tool, programs, given, combination, size):
     """Runs programs. Returns the outcome, what was wanted, and in words what differs, or None."""
-    outcome = tool.run(programs, given, combination, size)
+    image = tool.image(combination, size)
+    if size != SIZE:
+        return short_difference(tool, programs, given, image)
+    outcome = tool.run(programs, given, image)
     wanted = Wanted(programs, given)
     if outcome.kind != "ran":
         return outcome, wanted, None if outcome.kind == "limit" else outcome.kind
-    if size != SIZE:
-        same = explained(programs, given, outcome, wanted)
-        return outcome, wanted, "undecided" if same is None else None if same else "no refused memory explains this"
     if outcome.output != wanted.output:
         return outcome, wanted, "the output differs"
     if outcome.shown != wanted.shown:
@@ -1321,11 +1346,11 @@ def difference(tool, programs, given, combination, size):
 
 
 def session(seed, short):
-    """Ten programs for one image, or four if memory is short, and an input."""
+    """Ten programs for one image, and an input."""
     rng = random.Random(seed)
     world, programs = World(rng), []
     given = bytes(rng.choice(b"abc 12\n\xff") for _ in range(rng.choice([0, 5, 20, 60])))
-    for number in range(4 if short else SESSION):
+    for number in range(SESSION):
         text = Maker(rng, world, number, short).program()
         try:
             Wanted(programs + [text], given)
@@ -1651,7 +1676,7 @@ def main():
     options.segtool = os.path.abspath(options.segtool)
     if not os.access(options.segtool, os.X_OK):
         parser.error(f"there is no {options.segtool}")
-    each, work = (100, try_damaged) if options.command == "damaged" else (4 if options.short else SESSION, try_session)
+    each, work = (100, try_damaged) if options.command == "damaged" else (SESSION, try_session)
     seeds = range(options.seed, options.seed + -(-options.count // each))
     total, failures, began = Counter(), 0, time.monotonic()
     with multiprocessing.Pool(options.jobs, begin, (options,)) as pool:
