@@ -1278,7 +1278,7 @@ def ranked(shown):
 def explained(text, given, segment, outcome, most=3000):
     """The run of a program that does the same as `outcome`, if memory is refused at some of its requests. False if
     there is none, None if that isn't decided after so many runs."""
-    refused = []
+    refused, unsure = [], False
     for _ in range(most):
         at = 0
 
@@ -1297,13 +1297,15 @@ def explained(text, given, segment, outcome, most=3000):
             if run.output == outcome.output:
                 if ranked(sorted(meaning.shown(run.segment))) == ranked(outcome.shown):
                     return run
-        except (Apart, meaning.Unsure):
+        except Apart:
             pass
+        except meaning.Unsure:
+            unsure = True
         del refused[at:]
         while refused and refused[-1]:
             refused.pop()
         if not refused:
-            return False
+            return None if unsure else False
         refused[-1] = True
     return None
 
