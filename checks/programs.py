@@ -1070,6 +1070,11 @@ class Maker:
 
     def program(self):
         rng = self.rng
+        for at, thing in enumerate(self.objects):
+            if thing.word == "object" and not thing.count and self.chance(0.01):
+                # the object has another type in the other programs
+                kind = rng.choice(sorted(self.world.types()))
+                self.objects[at] = Object(thing.name, thing.word, kind, None, thing.exact)
         self.fail, self.fail_stops = None, False
         if self.short or self.chance(0.7):
             self.fail_stops = self.chance(0.5 if self.short else 0.15)
@@ -1079,12 +1084,7 @@ class Maker:
         for name, fields in self.world.structs.items():
             words = ", ".join(f"{field}: {written(kind)}" for field, kind in fields)
             declarations.append([f"struct {name} {{ {words} }}"])
-        for thing in self.objects:
-            other = rng.choice(sorted(self.world.types())) if self.chance(0.01) else None
-            if other is not None and thing.word == "object" and not thing.count:
-                thing = Object(thing.name, thing.word, other, None, thing.exact)
-                self.objects = [thing if one.name == thing.name else one for one in self.objects]
-            declarations.append([thing.declaration()])
+        declarations += [[thing.declaration()] for thing in self.objects]
         if self.chance(0.3):
             declarations.append([f"const C = {rng.choice(['3', '2 + 3 * 4', '-(7)', '(1 < 2) + 1', '0x10 % 3'])}"])
             self.constants.append("C")
