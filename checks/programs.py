@@ -1,7 +1,7 @@
 #!/usr/bin/env python3
 """Tests the compiler of programs from outside, with random programs and with damaged ones.
 
-    programs.py random [--count N] [--seed S] [--segtool PATH] [--jobs J] [--short] [--prototype LEZ.PY]
+    programs.py random [--count N] [--seed S] [--segtool PATH] [--jobs J] [--short] [--stops] [--prototype LEZ.PY]
     programs.py damaged [--count N] [--seed S] [--segtool PATH] [--jobs J]
 
 `random` makes N well-typed programs, ten for an image. It runs them with `segtool run`, and compares what they print
@@ -144,12 +144,12 @@ class Place:
 
 
 class Function:
-    """A function: the types of its parameters, whether it returns a number, what it removes, and the numbers of the
-    parameters that it changes."""
+    """A function: the types of its parameters, whether it returns a number, what it removes, the numbers of the
+    parameters that it changes, and whether it may stop the program."""
 
     def __init__(self, name, parameters, gives):
         self.name, self.parameters, self.gives = name, parameters, gives
-        self.removals, self.written = [], set()
+        self.removals, self.written, self.stops = [], set(), False
 
 
 def meets(one, other):
@@ -187,8 +187,8 @@ PIECES = ["", "a", "bc", "x y", "n=", "end", "\\n", "\\t", "\\x01", "\\xff", "\\
 class Maker:
     """Makes one program for a world. A statement is a list of lines."""
 
-    def __init__(self, rng, world, number, short):
-        self.rng, self.world, self.number, self.short = rng, world, number, short
+    def __init__(self, rng, world, number, short=False, stops=False):
+        self.rng, self.world, self.number, self.short, self.stops = rng, world, number, short, stops
         self.names, self.in_key = 0, False
         self.functions, self.constants, self.texts = [], [], []
         self.objects = [thing for thing in world.objects if rng.random() < 0.8] or world.objects[:1]
@@ -398,6 +398,10 @@ class Maker:
         function = self.rng.choice(self.functions) if self.functions else None
         if function is None or number and (not function.gives or function.removals):
             return None
+        if number and function.stops and not self.stops:
+            return None
+        if self.function is not None:
+            self.function.stops = self.function.stops or function.stops
         values, paths, given = [], {}, []
         for at, kind in enumerate(function.parameters):
             if kind == INT:
@@ -507,7 +511,13 @@ class Maker:
         if not choices:
             choices = ["stop"]
         lines = self.short_block(None, True) if printing and self.chance(0.5) else []
-        return lines + [self.rng.choice(choices)]
+        lines.append(self.rng.choice(choices))
+        return lines if lines[-1] != "stop" else lines[:-1] + [self.stop()]
+
+    def stop(self):
+        if self.function is not None:
+            self.function.stops = True
+        return "stop"
 
     def otherwise(self, likely=0.5):
         """An else part for a statement that can fail, as words to add, or nothing."""
@@ -752,7 +762,7 @@ class Maker:
         if self.chance(0.3):
             words += f" else {{ {'; '.join(self.leaving())} }}"
         elif self.short and not self.fail_stops:
-            words += " else { stop }"
+            words += f" else {{ {self.stop()} }}"
         self.add(name)
         return [words]
 
@@ -786,7 +796,7 @@ class Maker:
         text, kind = self.fresh(), cell.kind[1]
         lines = [f"let {text} = new {written(kind)}"]
         if self.short and not self.fail_stops:
-            lines[0] += " else { stop }"
+            lines[0] += f" else {{ {self.stop()} }}"
         scope, self.scope = self.scope, self.numbers()
         for _ in range(self.rng.randint(0, 3)):
             lines.append(self.filled(Place(text, kind, (("owned", text), ()), False)))
@@ -1055,7 +1065,7 @@ class Maker:
             text = self.fresh()
             names.append(Name(text, INT, settable=True) if kind == INT else Name(text, kind, (("parameter", at), ())))
         self.begin()
-        self.function = function
+        self.function, function.stops = function, self.fail_stops
         self.protected = [name.path for name in names if name.path is not None]
         budget, self.budget = self.budget, self.rng.randint(2, 5)
         lines, left = self.block(4, names)
@@ -1347,13 +1357,13 @@ def difference(tool, programs, given, combination, size):
 # ---- sessions
 
 
-def session(seed, short):
+def session(seed, short, stops=False):
     """Ten programs for one image, and an input."""
     rng = random.Random(seed)
     world, programs = World(rng), []
     given = bytes(rng.choice(b"abc 12\n\xff") for _ in range(rng.choice([0, 5, 20, 60])))
     for number in range(SESSION):
-        text = Maker(rng, world, number, short).program()
+        text = Maker(rng, world, number, short, stops).program()
         try:
             Wanted(programs + [text], given)
         except meaning.Unsure as unsure:
@@ -1369,7 +1379,7 @@ def try_session(seed):
     options, tool, counts = STATE["options"], STATE["tool"], Counter()
     tool.known.clear()
     try:
-        programs, given = session(seed, options.short)
+        programs, given = session(seed, options.short, options.stops)
     except meaning.Unsure as unsure:
         return seed, counts, [str(unsure)]
     combination = COMBINATIONS[seed % len(COMBINATIONS)]
@@ -1616,7 +1626,7 @@ def try_damaged(seed):
     rng = random.Random(seed)
     texts = [path.read_bytes() for path in sorted((ROOT / "examples").glob("*.lez"))]
     for number in range(6):
-        texts.append(Maker(rng, World(rng), number, False).program().encode())
+        texts.append(Maker(rng, World(rng), number).program().encode())
     program, client = tool.room / "damaged.lez", tool.room / "damaged.client"
     for number in range(100):
         data = damaged(rng, texts)
@@ -1671,8 +1681,9 @@ def main():
     parser.add_argument("--seed", type=int, default=1)
     parser.add_argument("--segtool", default=str(ROOT / "crates/segtool/out/segtool"))
     parser.add_argument("--jobs", type=int, default=1)
-    parser.add_argument("--short", action="store_true")
-    parser.add_argument("--prototype")
+    parser.add_argument("--short", action="store_true", help="uses images so small that memory runs out")
+    parser.add_argument("--stops", action="store_true", help="calls functions that may stop in expressions, too")
+    parser.add_argument("--prototype", help="a compiler in Python to use in place of segtool's")
     parser.add_argument("--failures", type=int, default=5, help="ends after so many failures")
     options = parser.parse_args()
     options.segtool = os.path.abspath(options.segtool)
