@@ -1597,24 +1597,34 @@ def told_wrong(data, told, status):
         return f"it prints a control character: {CONTROL.search(told.decode()).group()!r}"
     if lines.pop():
         return "the last line doesn't end"
-    errors, state = 0, "first"
-    for line in lines:
-        match = HEADER.fullmatch(line.encode())
-        if match and match["file"] == b"damaged.lez":
-            if not 1 <= int(match["line"]) <= data.count(b"\n") + 2 or int(match["column"]) < 1:
-                return f"there is no such place: {line}"
-            errors += match["kind"] == b"error"
-            state = "source"
-        elif state == "first":
-            return f"this isn't the line of an error: {line[:200]}"
-        elif state == "source":
-            state = "carets"
-        elif state == "carets":
-            if not re.fullmatch(r"[ \t]*\^+", line):
-                return f"these aren't carets: {line[:200]}"
-            state = "hint"
-        elif not line.startswith("hint: "):
-            return f"this is no hint: {line[:200]}"
+    errors, at, sources = 0, 0, data.split(b"\n")
+    while at < len(lines):
+        match = HEADER.fullmatch(lines[at].encode())
+        if not match or match["file"] != b"damaged.lez":
+            return f"this isn't the line of an error: {lines[at][:200]}"
+        errors += match["kind"] == b"error"
+        row, column = int(match["line"]), int(match["column"])
+        if not 1 <= row <= len(sources):
+            return f"there is no such line: {lines[at][:200]}"
+        at += 1
+        try:
+            source = sources[row - 1].decode()
+        except UnicodeDecodeError:
+            # what is printed of such a line isn't specified
+            while at < len(lines) and not HEADER.fullmatch(lines[at].encode()) and not lines[at].startswith("hint: "):
+                at += 1
+        else:
+            echo, carets = (lines[at:at + 2] + ["", ""])[:2]
+            at += 2
+            if not CONTROL.search(source):
+                if echo != source:
+                    return f"this isn't line {row} of the program: {echo[:200]}"
+                if not 1 <= column <= len(source) + 1 or not re.fullmatch(r"[ \t]*\^+", carets):
+                    return f"these aren't carets for column {column}: {carets[:200]}"
+                if carets.index("^") != column - 1:
+                    return f"these carets aren't in column {column}: {carets[:200]}"
+        if at < len(lines) and lines[at].startswith("hint: "):
+            at += 1
     if (errors > 0) != (status == 1):
         return f"status {status}, with {errors} errors"
     return None
