@@ -181,7 +181,7 @@ def ends(path, removal):
 
 LITERALS = ["0", "1", "2", "3", "4", "7", "10", "255", "256", "1_000", "0x7f", "'a'", "'\\n'", "true", "false"]
 LARGE = ["9223372036854775807", "2147483647", "2147483648", "4294967296", "1_000_000_007", "0x7fff_ffff_ffff"]
-PIECES = ["", "a", "bc", "x y", "n=", "end", "\\n", "\\t", "\\x01", "\\xff", "\\\"", "\\\\", "é", "#", "//", "0"]
+PIECES = ["", "a", "bc", "x y", "n=", "end", "\\n", "\\t", "\\x01", "\\xff", "\\0", "\\r", "\\'", "\\\"", "\\\\", "é", "#", "//", "0"]
 
 
 class Maker:
@@ -1057,8 +1057,9 @@ class Maker:
         """The lines of a function, which is then known."""
         places = [kind for kind in self.world.types() if kind != INT and kind[0] not in CELLS]
         parameters = [INT for _ in range(self.rng.randint(0, 2))]
-        if self.chance(0.5):
-            parameters.append(self.rng.choice(sorted(places)))
+        for likely in (0.5, 0.1):
+            if self.chance(likely):
+                parameters.append(self.rng.choice(sorted(places)))
         function = Function(f"f{len(self.functions)}", parameters, self.chance(0.7))
         names = []
         for at, kind in enumerate(parameters):
