@@ -1333,6 +1333,7 @@ def short_difference(tool, programs, given, image):
             return outcome, wanted, None if outcome.kind == "limit" else outcome.kind
         run = explained(text, given, segment, outcome)
         if not run:
+            outcome.text = f"program {number}, on its own"
             return outcome, wanted, "undecided" if run is None else "no refused memory explains this"
         wanted.failed += Counter(run.failed)
         segment, image = run.segment, out
@@ -1484,11 +1485,13 @@ def report(tool, seed, combination, programs, given, size, differs):
     if outcome.text:
         lines += ["--- segtool", outcome.text.rstrip("\n")]
     if outcome.kind == "ran":
-        lines += ["--- printed", outcome.output.decode(errors="backslashreplace"),
-                  "--- wanted", wanted.output.decode(errors="backslashreplace")]
+        lines += ["--- printed", outcome.output.decode(errors="backslashreplace")]
+        if size == SIZE:
+            lines += ["--- wanted", wanted.output.decode(errors="backslashreplace")]
         if outcome.output == wanted.output or size != SIZE:
-            lines += ["--- objects", *("\n".join(one) for one in outcome.shown),
-                      "--- wanted", *("\n".join(one) for one in wanted.shown)]
+            lines += ["--- objects", *("\n".join(one) for one in outcome.shown)]
+        if outcome.output == wanted.output and size == SIZE:
+            lines += ["--- wanted", *("\n".join(one) for one in wanted.shown)]
     return "\n".join(lines)
 
 
