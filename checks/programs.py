@@ -4,8 +4,9 @@
     programs.py random [--count N] [--seed S] [--segtool PATH] [--jobs J] [--short] [--stops] [--prototype LEZ.PY]
     programs.py damaged [--count N] [--seed S] [--segtool PATH] [--jobs J]
 
-`random` makes N well-typed programs, ten for an image. It runs them with `segtool run`, and compares what they print
-and the objects that they leave with `program_meaning.py`. With `--short` the images are so small that memory runs out.
+`random` runs a table of short programs, then N random well-typed ones, ten for an image, with `segtool run`. It compares
+what they print and the objects that they leave with `program_meaning.py`. With `--short` the images are so small that
+memory runs out.
 `damaged` changes the bytes of programs; `segtool compile` has to report an error for each, or to write a client that
 the verifier accepts. A failure is printed with what repeats it."""
 import argparse
@@ -1356,6 +1357,79 @@ def difference(tool, programs, given, combination, size):
     return outcome, wanted, None
 
 
+# ---- programs that are easily got wrong
+
+
+FAIL = 'fail { print "failed" }\n'
+EXAMPLES = [
+    # names of what an array, a family or a cell contains
+    FAIL + 'object a[3]: text\na[0] = "b"\nif let v = a[0] { print v.len, v }',
+    FAIL + "object a[3]: int\nuse a[2] as v\nlet y = v + 1\nprint y",
+    FAIL + "object a[3]: list<list<int>>\nif let v = a[0].push() { print v.len }",
+    FAIL + "object a[3]: int\na[7] = 1 else why { print why }\nprint a[0] ?? -1",
+    FAIL + "family f: int\nf[-3] = 4\nprint f[-3] ?? 0",
+    FAIL + "struct S { a: int }\nobject l: list<own<S>>\nl.push()\nfor v in l max 9 { print v.a ?? 7 }",
+    FAIL + "object o: own<list<int>>\nlet x = new list<int>\no = x\no.push(3)\nprint o.len ?? -1",
+    # what one part of a branch does, the other part doesn't see
+    FAIL + 'object o: own<text>\nobject l: list<list<int>>\nlet v = new text\nif let y = l[0] { o = v } else { v = "a" }',
+    FAIL + "object o: shared<text>\nobject l: list<list<int>>\nlet v = new text\n"
+           "if let y = l[0] { freeze o = v } else { freeze o = v }",
+    FAIL + 'object m: map<text>\nobject l: list<list<int>>\nm[0] = "a"\n'
+           "if let v = m[0] { if let y = l[0] { clear m } else { print v } }",
+    FAIL + 'object m: map<text>\nm[0] = "a"\nm[1] = "b"\nfor k, v in m max 4 { if k { clear m } else { print v } }',
+    # constants
+    "print 9223372036854775807 + 1",
+    "let x = 9223372036854775807 * 2\nprint x",
+    # the fail part
+    "object a: shared<text>\nobject b: shared<text>\nfail { stop }\nshare a = b\nprint 1",
+    'fail { print "failed"; stop }\nobject l: list<list<int>>\nuse l[3] as x { print 1 }\nprint 2',
+    FAIL + "object l: list<list<int>>\nuse l[3] as x\nprint 1",
+    # the order of evaluation
+    FAIL + "object x: int\nfn f() -> int { x += 1; return 10 }\nuse x\nprint x + f() * 100\nprint f() + x",
+    FAIL + "object x: int\nfn f() -> int { x += 1; return x ?? 0 }\nlet a = f() - f() * f()\nprint a",
+    FAIL + "object m: map<int>\nobject x: int\nfn f() -> int { x += 1; return x ?? 0 }\n"
+           "m[f()] = f()\nprint m[1] ?? 0, m[2] ?? 0\nprint m[f()] ?? f(), x ?? 0",
+    FAIL + "object x: int\nfn f() -> int { x += 1; return 1 }\nprint f() && f() || f(), x ?? 0\n"
+           "print 0 && f(), 1 || f(), x ?? 0",
+    FAIL + 'fn f() -> int { print "in f"; return 3 }\nprint "a", f(), "b", f()',
+    FAIL + "object m: map<int>\nm[1] = m.len ?? 0\nm[2] += m.len ?? 0\nprint m[1] ?? 5, m[2] ?? 5",
+    FAIL + 'object x: int\nfn f() -> int { x += 1; return 1 }\nwhile f() max 3 { print "." } else { print "cut" }\n'
+           "print x ?? 0",
+    # loops
+    FAIL + "object m: map<int>\nm[1] = 1\nm[2] = 2\n"
+           "for k, v in m max 10 { print k, v; if k == 1 { delete m; m[5] = 3 } }",
+    "let n = 3\nfor i in 0..n max 9 { n = 0; print i }",
+    # places that are absent, and what a write leaves
+    FAIL + "object g: map<list<int>>\ng[1][0] = 5\nprint g.len ?? -1",
+    FAIL + 'object m: map<text>\nm[1] = "a"\nclear m[5]\nprint m.len ?? -1',
+    FAIL + 'object t: text\nprint t == "", t != ""',
+    FAIL + 'object l: list<own<text>>\nlet t = new text\nt = "abc"\nl[3] = t\nprint l.len ?? -1',
+    # a number that is read in a loop behind lookups of several objects
+    "family n: int\nobject o: own<S>\nstruct S { a: int, b: shared<map<int>> }\nobject m: map<text>\n"
+    "let v = new S\nlet k = n[3] ?? 0\nif let w = new S { if let x = w.b { let y = o.b else { stop }\n"
+    'for z in x max 2 { let i = -k\nwrite "#", m[i] } } }',
+]
+
+# What follows `stop` in a function that is called within a statement.
+STOPPING = ["fn f(a) -> int { if a { stop }\nreturn 5 }\n" + text for text in [
+    "print f(0)\nprint f(1)", 'print "a", f(1), "b"', 'print "a", f(1) : 4, "b"', FAIL + "object t: text\nt = f(0), f(1)",
+    FAIL + "object x: int\nx = f(0) + f(1)", 'if f(1) { print "yes" } else { print "no" }',
+    'while f(1) max 3 { print "yes" } else { print "cut" }\nprint "after"']]
+
+
+def try_examples(_seed):
+    """Runs each example on a new image. Returns 0, counts, and failures in words."""
+    tool, counts, found = STATE["tool"], Counter(), []
+    for number, text in enumerate(EXAMPLES + (STOPPING if STATE["options"].stops else [])):
+        combination = COMBINATIONS[number % len(COMBINATIONS)]
+        outcome, _, differs = difference(tool, [text], b"", combination, SIZE)
+        counts["examples past a limit" if outcome.kind == "limit" else "examples"] += 1
+        if differs:
+            counts["failed"] += 1
+            found.append(report(tool, f"0 (example {number})", combination, [text], b"", SIZE, differs))
+    return 0, counts, found
+
+
 # ---- sessions
 
 
@@ -1374,6 +1448,11 @@ def session(seed, short, stops=False):
             continue
         programs.append(text)
     return programs, given
+
+
+def try_random(seed):
+    """The examples for 0, and a session for each other seed."""
+    return try_session(seed) if seed else try_examples(seed)
 
 
 def try_session(seed):
@@ -1703,11 +1782,12 @@ def main():
     options.segtool = os.path.abspath(options.segtool)
     if not os.access(options.segtool, os.X_OK):
         parser.error(f"there is no {options.segtool}")
-    each, work = (100, try_damaged) if options.command == "damaged" else (SESSION, try_session)
+    each, work = (100, try_damaged) if options.command == "damaged" else (SESSION, try_random)
     seeds = range(options.seed, options.seed + -(-options.count // each))
+    items = seeds if options.command == "damaged" else [0, *seeds]
     total, failures, began = Counter(), 0, time.monotonic()
     with multiprocessing.Pool(options.jobs, begin, (options,)) as pool:
-        for done, (_, counts, found) in enumerate(pool.imap_unordered(work, seeds), 1):
+        for done, (_, counts, found) in enumerate(pool.imap_unordered(work, items), 1):
             total += counts
             for words in found:
                 print(words, end="\n\n", flush=True)
