@@ -4,9 +4,9 @@
     programs.py random [--count N] [--seed S] [--segtool PATH] [--jobs J] [--short] [--stops] [--prototype LEZ.PY]
     programs.py damaged [--count N] [--seed S] [--segtool PATH] [--jobs J]
 
-`random` runs a table of short programs, then N random well-typed ones, ten for an image, with `segtool run`. It compares
-what they print and the objects that they leave with `program_meaning.py`. With `--short` the images are so small that
-memory runs out.
+`random` runs a table of short programs, then N random well-typed ones, ten for an image, with `segtool run`. It
+compares what they print and the objects that they leave with `program_meaning.py`. With `--short` the images are so
+small that memory runs out.
 `damaged` changes the bytes of programs; `segtool compile` has to report an error for each, or to write a client that
 the verifier accepts. A failure is printed with what repeats it."""
 import argparse
@@ -182,7 +182,8 @@ def ends(path, removal):
 
 LITERALS = ["0", "1", "2", "3", "4", "7", "10", "255", "256", "1_000", "0x7f", "'a'", "'\\n'", "true", "false"]
 LARGE = ["9223372036854775807", "2147483647", "2147483648", "4294967296", "1_000_000_007", "0x7fff_ffff_ffff"]
-PIECES = ["", "a", "bc", "x y", "n=", "end", "\\n", "\\t", "\\x01", "\\xff", "\\0", "\\r", "\\'", "\\\"", "\\\\", "é", "#", "//", "0"]
+PIECES = ["", "a", "bc", "x y", "n=", "end", "\\n", "\\t", "\\x01", "\\xff", "\\0", "\\r", "\\'", "\\\"", "\\\\", "é", "#",
+          "//", "0"]
 
 
 class Maker:
@@ -1371,7 +1372,8 @@ EXAMPLES = [
     FAIL + "struct S { a: int }\nobject l: list<own<S>>\nl.push()\nfor v in l max 9 { print v.a ?? 7 }",
     FAIL + "object o: own<list<int>>\nlet x = new list<int>\no = x\no.push(3)\nprint o.len ?? -1",
     # what one part of a branch does, the other part doesn't see
-    FAIL + 'object o: own<text>\nobject l: list<list<int>>\nlet v = new text\nif let y = l[0] { o = v } else { v = "a" }',
+    FAIL + "object o: own<text>\nobject l: list<list<int>>\nlet v = new text\n"
+           'if let y = l[0] { o = v } else { v = "a" }',
     FAIL + "object o: shared<text>\nobject l: list<list<int>>\nlet v = new text\n"
            "if let y = l[0] { freeze o = v } else { freeze o = v }",
     FAIL + 'object m: map<text>\nobject l: list<list<int>>\nm[0] = "a"\n'
@@ -1412,8 +1414,8 @@ EXAMPLES = [
 
 # What follows `stop` in a function that is called within a statement.
 STOPPING = ["fn f(a) -> int { if a { stop }\nreturn 5 }\n" + text for text in [
-    "print f(0)\nprint f(1)", 'print "a", f(1), "b"', 'print "a", f(1) : 4, "b"', FAIL + "object t: text\nt = f(0), f(1)",
-    FAIL + "object x: int\nx = f(0) + f(1)", 'if f(1) { print "yes" } else { print "no" }',
+    "print f(0)\nprint f(1)", 'print "a", f(1), "b"', 'print "a", f(1) : 4, "b"',
+    FAIL + "object t: text\nt = f(0), f(1)", FAIL + "object x: int\nx = f(0) + f(1)", 'if f(1) { print "yes" } else { print "no" }',
     'while f(1) max 3 { print "yes" } else { print "cut" }\nprint "after"']]
 
 
