@@ -182,8 +182,8 @@ def ends(path, removal):
 
 LITERALS = ["0", "1", "2", "3", "4", "7", "10", "255", "256", "1_000", "0x7f", "'a'", "'\\n'", "true", "false"]
 LARGE = ["9223372036854775807", "2147483647", "2147483648", "4294967296", "1_000_000_007", "0x7fff_ffff_ffff"]
-PIECES = ["", "a", "bc", "x y", "n=", "end", "\\n", "\\t", "\\x01", "\\xff", "\\0", "\\r", "\\'", "\\\"", "\\\\", "é", "#",
-          "//", "0"]
+PIECES = ["", "a", "bc", "x y", "n=", "end", "\\n", "\\t", "\\x01", "\\xff", "\\0", "\\r", "\\'", "\\\"", "\\\\", "é",
+          "#", "//", "0"]
 
 
 class Maker:
@@ -1415,7 +1415,8 @@ EXAMPLES = [
 # What follows `stop` in a function that is called within a statement.
 STOPPING = ["fn f(a) -> int { if a { stop }\nreturn 5 }\n" + text for text in [
     "print f(0)\nprint f(1)", 'print "a", f(1), "b"', 'print "a", f(1) : 4, "b"',
-    FAIL + "object t: text\nt = f(0), f(1)", FAIL + "object x: int\nx = f(0) + f(1)", 'if f(1) { print "yes" } else { print "no" }',
+    FAIL + "object t: text\nt = f(0), f(1)", FAIL + "object x: int\nx = f(0) + f(1)",
+    'if f(1) { print "yes" } else { print "no" }',
     'while f(1) max 3 { print "yes" } else { print "cut" }\nprint "after"']]
 
 
