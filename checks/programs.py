@@ -1,7 +1,7 @@
 #!/usr/bin/env python3
 """Tests the compiler of programs from outside, with random programs and with damaged ones.
 
-    programs.py random [--count N] [--seed S] [--segtool PATH] [--jobs J] [--short] [--stops] [--prototype LEZ.PY]
+    programs.py random [--count N] [--seed S] [--segtool PATH] [--jobs J] [--short] [--stops]
     programs.py damaged [--count N] [--seed S] [--segtool PATH] [--jobs J]
 
 `random` runs a table of short programs, then N random well-typed ones, ten for an image, with `segtool run`. It
@@ -11,7 +11,6 @@ small that memory runs out.
 the verifier accepts. A failure is printed with what repeats it."""
 import argparse
 import copy
-import importlib.util
 import multiprocessing
 import os
 import random
@@ -1149,9 +1148,8 @@ class Outcome:
 class Tool:
     """`segtool` and a folder to use it in, of one process."""
 
-    def __init__(self, path, prototype, room):
-        self.path, self.room, self.images, self.known = path, Path(room), {}, {}
-        self.compiler = load(prototype) if prototype else None
+    def __init__(self, path, room):
+        self.path, self.room, self.images = path, Path(room), {}
 
     def call(self, *words, timeout=60):
         return subprocess.run([self.path, *map(str, words)], cwd=self.room, stdout=subprocess.PIPE,
@@ -1192,10 +1190,6 @@ class Tool:
         for number, text in enumerate(programs):
             clients.append(f"{number}.lez")
             (self.room / clients[-1]).write_text(text, encoding="utf-8")
-        if self.compiler:
-            refusal, clients = self.compiled(programs, image)
-            if refusal:
-                return refusal
         try:
             ran = self.call("run", image, out, *clients, "--input", "input")
         except subprocess.TimeoutExpired:
@@ -1218,40 +1212,6 @@ class Tool:
         if ran.returncode == 1 and re.search(r"fault 2[23]\b", text):
             return Outcome("refused", None, text)
         return Outcome("broken", None, f"status {ran.returncode}\n{text}")
-
-    def compiled(self, programs, image):
-        """The prototype's clients of programs, or why there are none."""
-        types, clients = self.compiler.table_of(self.room / image), []
-        for number, text in enumerate(programs):
-            key = (text, str(types))
-            if key not in self.known:
-                try:
-                    made = self.compiler.compile(text, types)
-                    self.known[key] = (made.text, [[kind, list(parts)] for kind, parts in made.table.l])
-                except self.compiler.Bad as bad:
-                    kind = "limit" if LIMITS.search(bad.text) else "rejected"
-                    self.known[key] = Outcome(kind, number, bad.text)
-                except Exception as error:  # the prototype may fail in any way
-                    self.known[key] = Outcome("broken", number, f"{type(error).__name__}: {error}")
-            made = self.known[key]
-            if isinstance(made, Outcome):
-                return Outcome(made.kind, number, made.text), None
-            client, types = made[0], [[kind, list(parts)] for kind, parts in made[1]]
-            clients.append(f"{number}.client")
-            (self.room / "client.text").write_text(client, encoding="latin-1")
-            assembled = self.call("asm", "client.text", clients[-1], "--force")
-            if assembled.returncode:
-                return Outcome("broken", number, f"asm: {assembled.stderr.decode()}"), None
-        return None, clients
-
-
-def load(path):
-    """The prototype of the compiler, as a module."""
-    sys.path.insert(0, str(Path(path).resolve().parent))
-    spec = importlib.util.spec_from_file_location("prototype", path)
-    module = importlib.util.module_from_spec(spec)
-    spec.loader.exec_module(module)
-    return module
 
 
 def objects_of(text):
@@ -1461,7 +1421,6 @@ def try_random(seed):
 def try_session(seed):
     """Runs a session. Returns the seed, counts, and failures in words."""
     options, tool, counts = STATE["options"], STATE["tool"], Counter()
-    tool.known.clear()
     try:
         programs, given = session(seed, options.short, options.stops)
     except meaning.Unsure as unsure:
@@ -1767,7 +1726,7 @@ def begin(options):
     """Prepares a process."""
     room = tempfile.TemporaryDirectory(prefix="programs-")
     STATE["room"], STATE["options"] = room, options
-    STATE["tool"] = Tool(options.segtool, options.prototype, room.name)
+    STATE["tool"] = Tool(options.segtool, room.name)
 
 
 def main():
@@ -1779,7 +1738,6 @@ def main():
     parser.add_argument("--jobs", type=int, default=1)
     parser.add_argument("--short", action="store_true", help="uses images so small that memory runs out")
     parser.add_argument("--stops", action="store_true", help="calls functions that may stop in expressions, too")
-    parser.add_argument("--prototype", help="a compiler in Python to use in place of segtool's")
     parser.add_argument("--failures", type=int, default=5, help="ends after so many failures")
     options = parser.parse_args()
     options.segtool = os.path.abspath(options.segtool)
