@@ -46,13 +46,13 @@ impl<'a, R: rt::Files<File = File> + AllocGlobal> HostFiles<'a, R> {
         Ok(bytes)
     }
 
-    /// The metadata of the plain file with this name, through links. `None` if there is no plain file, or if it can't be reached,
-    /// since then it can't be written either.
+    /// The metadata of the plain file with this name, through links. `None` if there is no plain file, or if permissions keep from
+    /// it, since then it can't be written either.
     fn plain_file(&self, name: &str) -> Result<Option<Metadata>, FileFault> {
         match fs::metadata(self.rt, name) {
             Ok(there) if there.is_file() => Ok(Some(there)),
-            Err(error) if error.kind() == ErrorKind::OutOfMemory => Err(FileFault::Memory),
-            Ok(_) | Err(_) => Ok(None),
+            Ok(_) => Ok(None),
+            Err(error) => none_if_absent(unread(error)),
         }
     }
 
@@ -181,6 +181,15 @@ fn unread(error: io::Error) -> FileFault {
         _ => FileProblem::System,
     };
     FileFault::Failed(problem)
+}
+
+/// `None`, unless the system couldn't tell whether there is a file.
+fn none_if_absent<T>(fault: FileFault) -> Result<Option<T>, FileFault> {
+    match fault {
+        FileFault::Failed(FileProblem::Missing | FileProblem::Folder | FileProblem::Unreadable) =>
+            Ok(None),
+        _ => Err(fault),
+    }
 }
 
 /// The failure for an error while writing a file.
