@@ -47,6 +47,10 @@ static uint32_t any(uint32_t limit) {
     return (uint32_t)((state >> 33) % limit);
 }
 
+static std::string name_of(uint32_t number) {
+    return std::string(number == 7 ? 61 : 0, 'n') + std::to_string(number);
+}
+
 static void expect(bool is_right, const char* what, unsigned long long one = 0, unsigned long long two = 0) {
     if (!is_right && ++differences <= 20) std::printf("%s: %llu and %llu\n", what, one, two);
 }
@@ -139,22 +143,26 @@ template <class Fit, template <class> class Index> struct Theirs {
     }
 };
 
-// A change of both segments. A name has one type, as its last letter says.
+// Both segments, and the object that the next call is about.
 template <class Peer> struct Pair {
     Ours ours;
     Peer theirs;
+    std::string held;
     const char* name = nullptr;
     int type = 0;
     lezgauri_place place{};
 
     Pair(size_t size, uint32_t allocator, uint32_t index) : ours(size, allocator, index), theirs(size) {}
 
-    void choose() {
-        static char names[NAMES][64];
-        uint32_t number = any(NAMES);
+    // Each name has one type.
+    void take(uint32_t number) {
+        held = name_of(number);
+        name = held.c_str();
         type = (int)(number % TYPES);
-        std::snprintf(names[number], sizeof names[number], number == 7 ? "%060d%u" : "%.0s%u", 7, number);
-        name = names[number];
+    }
+
+    void choose() {
+        take(any(NAMES));
     }
 
     // Lezgauri refuses only what is larger than its largest free block; growing containers ask for up to twice as much again.
@@ -322,10 +330,7 @@ template <class Peer> struct Pair {
     // All names and values agree.
     void compare() {
         for (uint32_t number = 0; number < NAMES; number++) {
-            type = (int)(number % TYPES);
-            char text[64];
-            std::snprintf(text, sizeof text, number == 7 ? "%060d%u" : "%.0s%u", 7, number);
-            name = text;
+            take(number);
             size_t count = theirs.count(name, type);
             uint32_t status = lezgauri_find(ours.handle, name, (uint32_t)type, &place);
             expect(status == (count > 0 ? LEZGAURI_OK : LEZGAURI_ABSENT), "an object", status, count);
@@ -391,10 +396,7 @@ template <class Peer> struct Pair {
     // Without objects, all memory is free again, and both segments shrink.
     void finish() {
         for (uint32_t number = 0; number < NAMES; number++) {
-            type = (int)(number % TYPES);
-            char text[64];
-            std::snprintf(text, sizeof text, number == 7 ? "%060d%u" : "%.0s%u", 7, number);
-            name = text;
+            take(number);
             destroy();
         }
         auto [all, largest] = ours.free_memory();

@@ -16,8 +16,8 @@ work=$(mktemp -d)
 trap 'rm -rf "$work"' EXIT
 
 include=$root/crates/lezgauri_c/include
-sources=("$root"/fuzz/{common,generate,mutate,targets,calls,main}.c)
-flags=(-std=c11 -Wall -Wextra -Werror -O1 -g -I"$include" -Wl,--wrap=malloc,--wrap=realloc)
+sources=("$root"/fuzz/{common,generate,mutate,targets,calls,memory,main}.c)
+flags=(-std=c11 -Wall -Wextra -Werror -O1 -g -I"$include" -Wl,--wrap=malloc,--wrap=realloc,--wrap=free)
 sanitizers=(-fsanitize=address,undefined -fno-sanitize-recover=all)
 case $how in
   plain) "${CC:-cc}" "${flags[@]}" -o "$work/fuzz" "${sources[@]}" "$library" ;;
@@ -30,7 +30,7 @@ case $how in
     ;;
 esac
 
-targets=(image client text calls)
+targets=(image client text calls memory)
 part=$(((seconds + ${#targets[@]} - 1) / ${#targets[@]}))
 for target in "${targets[@]}"; do
   if [ "$how" = libfuzzer ]; then

@@ -78,14 +78,17 @@ void free_guarded(uint8_t *memory, size_t len)
     munmap(memory + len - pages(len), pages(len) + PAGE);
 }
 
-/* ---- the library's requests for memory: link with -Wl,--wrap=malloc,--wrap=realloc */
+/* ---- the library's requests for memory: link with -Wl,--wrap=malloc,--wrap=realloc,--wrap=free */
 
 void *__real_malloc(size_t size);
 void *__real_realloc(void *block, size_t size);
+void __real_free(void *block);
 void *__wrap_malloc(size_t size);
 void *__wrap_realloc(void *block, size_t size);
+void __wrap_free(void *block);
 
 static unsigned made, refused;
+static long blocks;
 
 void refuse_request(unsigned request)
 {
@@ -103,14 +106,29 @@ static bool is_refused(void)
     return ++made == refused && refused != 0;
 }
 
+long live_blocks(void)
+{
+    return blocks;
+}
+
 void *__wrap_malloc(size_t size)
 {
-    return is_refused() ? NULL : __real_malloc(size);
+    void *block = is_refused() ? NULL : __real_malloc(size);
+    blocks += block != NULL;
+    return block;
 }
 
 void *__wrap_realloc(void *block, size_t size)
 {
-    return is_refused() ? NULL : __real_realloc(block, size);
+    void *moved = is_refused() ? NULL : __real_realloc(block, size);
+    blocks += block == NULL && moved != NULL;
+    return moved;
+}
+
+void __wrap_free(void *block)
+{
+    blocks -= block != NULL;
+    __real_free(block);
 }
 
 uint64_t counters[COUNTERS];

@@ -48,6 +48,8 @@ _Noreturn void wrong(const char *format, ...);
 void refuse_request(unsigned request);
 /* How many requests there were since then. */
 unsigned requests(void);
+/* How many blocks from malloc aren't freed. */
+long live_blocks(void);
 
 /* ---- generators and mutators */
 

@@ -75,7 +75,7 @@ int LLVMFuzzerInitialize(int *argc, char ***argv)
     (void)argc, (void)argv;
     current = find_target(getenv("TARGET"));
     if (current == NULL) {
-        fprintf(stderr, "set TARGET to image, client, text or calls\n");
+        fprintf(stderr, "set TARGET to image, client, text, calls or memory\n");
         exit(2);
     }
     return 0;

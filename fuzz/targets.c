@@ -455,16 +455,19 @@ static size_t text_input(choices *from, uint8_t *input)
     return text_len;
 }
 
-/* ---- calls */
+/* ---- calls and memory */
 
 void run_calls(const uint8_t *input, size_t len);
 size_t calls_input(choices *from, uint8_t *input);
+void run_memory(const uint8_t *input, size_t len);
+size_t memory_input(choices *from, uint8_t *input);
 
 const target targets[] = {
     {"image", run_image, image_input, mutate_image},
     {"client", run_client, client_input, mutate_client},
     {"text", run_text, text_input, mutate_text},
     {"calls", run_calls, calls_input, mutate_bytes},
+    {"memory", run_memory, memory_input, mutate_client},
     {NULL, NULL, NULL, NULL},
 };
 
