@@ -3,9 +3,9 @@
 
     limits.py SEGTOOL [--only WORD] [--rounds N]
 
-The fastest of N runs counts, 1 if it isn't given. Wall and user times are in seconds, and memory is the most that was resident, in MiB.
-Fails if a command has another status than it should. Needs 3 GiB in /dev/shm or in the folder for temporary files, and 6 GiB of
-memory."""
+The fastest of N runs counts, 1 if it isn't given. Wall and user times are in seconds, and memory is the most that was
+resident, in MiB. Fails if a command has another status than it should. Needs 3 GiB in /dev/shm or in the folder for
+temporary files, and 6 GiB of memory."""
 import argparse
 import os
 import subprocess
@@ -72,8 +72,8 @@ WHILE r2 {count}
   ADD r3 r3 r1
 END
 """
-    return (f"type i64\nfamily {family}\nCONST r1 1\nCONST r5 0\n" + loop.format(count=count, find="MAKE", rest="- t0 k0") +
-            loop.format(count=count, find="FIND", rest="- t0 k0") + "OUTI r3\n")
+    loops = [loop.format(count=count, find=it, rest="- t0 k0") for it in ("MAKE", "FIND")]
+    return f"type i64\nfamily {family}\nCONST r1 1\nCONST r5 0\n{''.join(loops)}OUTI r3\n"
 
 
 def longest(steps):
@@ -103,7 +103,8 @@ class Limits:
             printed = child.stdout.read()
             _, status, used = os.wait4(child.pid, 0)
             child.returncode = os.waitstatus_to_exitcode(status)
-        return time.perf_counter() - begun, used.ru_utime, used.ru_maxrss / 1024, child.returncode, printed.decode().strip()
+        wall = time.perf_counter() - begun
+        return wall, used.ru_utime, used.ru_maxrss / 1024, child.returncode, printed.decode().strip()
 
     def row(self, what, *words, status=0):
         if self.only not in what:

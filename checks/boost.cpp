@@ -1,15 +1,19 @@
 // Random sequences of calls on a segment of Lezgauri and on one of Boost.Interprocess side by side, in one process.
 //
-//   boost COUNT [SEED]     COUNT sequences for sequential fit with a flat index, and COUNT for best fit with a tree index
+//   boost COUNT [SEED]     COUNT sequences for sequential fit with a flat index, and COUNT for best fit with a tree
+//   index
 //
-// Both segments get the same named arrays of numbers, strings, vectors, lists and maps, and the same changes of them. After each call
-// both must agree on what was refused and why, and at the end of a sequence on all names and values. When everything is destroyed, the
-// free memory of each is what it was at first. Both grow and shrink as they are asked to.
+// Both segments get the same named arrays of numbers, strings, vectors, lists and maps, and the same changes of them.
+// After each call both must agree on what was refused and why, and at the end of a sequence on all names and values.
+// When everything is destroyed, the free memory of each is what it was at first. Both grow and shrink as they are asked
+// to.
 //
-// The layouts of blocks differ, so out-of-memory doesn't come at the same call. If one segment refuses for lack of memory, the change
-// is taken back from the other; and Lezgauri may refuse only if its largest free block is too small for what was asked.
+// The layouts of blocks differ, so out-of-memory doesn't come at the same call. If one segment refuses for lack of
+// memory, the change is taken back from the other; and Lezgauri may refuse only if its largest free block is too small
+// for what was asked.
 //
-// Prints how many calls were made and refused, and each difference. g++ -O1 -std=c++17 boost.cpp liblezgauri.a; needs libboost-dev.
+// Prints how many calls were made and refused, and each difference. g++ -O1 -std=c++17 boost.cpp liblezgauri.a; needs
+// libboost-dev.
 #include <lezgauri.h>
 
 #include <boost/interprocess/allocators/allocator.hpp>
@@ -35,8 +39,9 @@ namespace bi = boost::interprocess;
 enum { NUMBER, STRING, NUMBERS, LIST, MAP, FLAT_MAP, TYPES, NAMES = 12, ROOM = 1 << 18, MOST_CALLS = 300 };
 
 static const lezgauri_type types[TYPES] = {
-    {LEZGAURI_KIND_I64, 0, {0}, {0}},       {LEZGAURI_KIND_STR, 0, {0}, {0}},       {LEZGAURI_KIND_VEC, 1, {NUMBER}, {0}},
-    {LEZGAURI_KIND_LIST, 1, {NUMBER}, {0}}, {LEZGAURI_KIND_MAP, 1, {NUMBER}, {0}}, {LEZGAURI_KIND_FLAT_MAP, 1, {NUMBER}, {0}},
+    {LEZGAURI_KIND_I64, 0, {0}, {0}},      {LEZGAURI_KIND_STR, 0, {0}, {0}},
+    {LEZGAURI_KIND_VEC, 1, {NUMBER}, {0}}, {LEZGAURI_KIND_LIST, 1, {NUMBER}, {0}},
+    {LEZGAURI_KIND_MAP, 1, {NUMBER}, {0}}, {LEZGAURI_KIND_FLAT_MAP, 1, {NUMBER}, {0}},
 };
 
 static uint64_t state;
@@ -47,9 +52,7 @@ static uint32_t any(uint32_t limit) {
     return (uint32_t)((state >> 33) % limit);
 }
 
-static std::string name_of(uint32_t number) {
-    return std::string(number == 7 ? 61 : 0, 'n') + std::to_string(number);
-}
+static std::string name_of(uint32_t number) { return std::string(number == 7 ? 61 : 0, 'n') + std::to_string(number); }
 
 static void expect(bool is_right, const char* what, unsigned long long one = 0, unsigned long long two = 0) {
     if (!is_right && ++differences <= 20) std::printf("%s: %llu and %llu\n", what, one, two);
@@ -81,10 +84,12 @@ struct Ours {
 };
 
 // The segment of Boost, with the same kinds of allocator and index.
-template <class Fit, template <class> class Index> struct Theirs {
+template <class Fit, template <class> class Index>
+struct Theirs {
     using Segment = bi::basic_managed_external_buffer<char, Fit, Index>;
     using Manager = typename Segment::segment_manager;
-    template <class T> using Allocator = bi::allocator<T, Manager>;
+    template <class T>
+    using Allocator = bi::allocator<T, Manager>;
     using String = bi::basic_string<char, std::char_traits<char>, Allocator<char>>;
     using Vector = bi::vector<int64_t, Allocator<int64_t>>;
     using List = bi::list<int64_t, Allocator<int64_t>>;
@@ -102,10 +107,18 @@ template <class Fit, template <class> class Index> struct Theirs {
     bool construct(const char* name, int type, uint32_t count) {
         try {
             switch (type) {
-                case NUMBER: segment.template construct<int64_t>(name)[count](0); break;
-                case STRING: segment.template construct<String>(name)(Allocator<char>(manager())); break;
-                case NUMBERS: segment.template construct<Vector>(name)(Allocator<int64_t>(manager())); break;
-                case LIST: segment.template construct<List>(name)(Allocator<int64_t>(manager())); break;
+                case NUMBER:
+                    segment.template construct<int64_t>(name)[count](0);
+                    break;
+                case STRING:
+                    segment.template construct<String>(name)(Allocator<char>(manager()));
+                    break;
+                case NUMBERS:
+                    segment.template construct<Vector>(name)(Allocator<int64_t>(manager()));
+                    break;
+                case LIST:
+                    segment.template construct<List>(name)(Allocator<int64_t>(manager()));
+                    break;
                 case MAP:
                     segment.template construct<Map>(name)(std::less<int64_t>(),
                                                           Allocator<std::pair<const int64_t, int64_t>>(manager()));
@@ -119,32 +132,48 @@ template <class Fit, template <class> class Index> struct Theirs {
             return false;
         }
     }
-    template <class T> T* find(const char* name) { return segment.template find<T>(name).first; }
+    template <class T>
+    T* find(const char* name) {
+        return segment.template find<T>(name).first;
+    }
     // The number of an object's values; 0 if there is no such object.
     size_t count(const char* name, int type) {
         switch (type) {
-            case NUMBER: return segment.template find<int64_t>(name).second;
-            case STRING: return segment.template find<String>(name).second;
-            case NUMBERS: return segment.template find<Vector>(name).second;
-            case LIST: return segment.template find<List>(name).second;
-            case MAP: return segment.template find<Map>(name).second;
-            default: return segment.template find<FlatMap>(name).second;
+            case NUMBER:
+                return segment.template find<int64_t>(name).second;
+            case STRING:
+                return segment.template find<String>(name).second;
+            case NUMBERS:
+                return segment.template find<Vector>(name).second;
+            case LIST:
+                return segment.template find<List>(name).second;
+            case MAP:
+                return segment.template find<Map>(name).second;
+            default:
+                return segment.template find<FlatMap>(name).second;
         }
     }
     bool destroy(const char* name, int type) {
         switch (type) {
-            case NUMBER: return segment.template destroy<int64_t>(name);
-            case STRING: return segment.template destroy<String>(name);
-            case NUMBERS: return segment.template destroy<Vector>(name);
-            case LIST: return segment.template destroy<List>(name);
-            case MAP: return segment.template destroy<Map>(name);
-            default: return segment.template destroy<FlatMap>(name);
+            case NUMBER:
+                return segment.template destroy<int64_t>(name);
+            case STRING:
+                return segment.template destroy<String>(name);
+            case NUMBERS:
+                return segment.template destroy<Vector>(name);
+            case LIST:
+                return segment.template destroy<List>(name);
+            case MAP:
+                return segment.template destroy<Map>(name);
+            default:
+                return segment.template destroy<FlatMap>(name);
         }
     }
 };
 
 // Both segments, and the object that the next call is about.
-template <class Peer> struct Pair {
+template <class Peer>
+struct Pair {
     Ours ours;
     Peer theirs;
     std::string held;
@@ -161,14 +190,14 @@ template <class Peer> struct Pair {
         type = (int)(number % TYPES);
     }
 
-    void choose() {
-        take(any(NAMES));
-    }
+    void choose() { take(any(NAMES)); }
 
-    // Lezgauri refuses only what is larger than its largest free block; growing containers ask for up to twice as much again.
+    // Lezgauri refuses only what is larger than its largest free block; growing containers ask for up to twice as much
+    // again.
     void note_out_of_memory(int who, size_t least) {
         out_of_memory[who]++;
-        if (who == 0) expect(ours.free_memory().second < least, "out of memory too early", ours.free_memory().second, least);
+        if (who == 0)
+            expect(ours.free_memory().second < least, "out of memory too early", ours.free_memory().second, least);
     }
 
     void construct() {
@@ -181,8 +210,10 @@ template <class Peer> struct Pair {
             return;
         }
         bool made = theirs.construct(name, type, count);
-        if (status == LEZGAURI_BAD_ALLOC) note_out_of_memory(0, 8 * count + 4096);
-        else expect(status == LEZGAURI_OK, "construct", status);
+        if (status == LEZGAURI_BAD_ALLOC)
+            note_out_of_memory(0, 8 * count + 4096);
+        else
+            expect(status == LEZGAURI_OK, "construct", status);
         if (!made) out_of_memory[1]++;
         if (status == LEZGAURI_OK && !made) lezgauri_destroy(ours.handle, name, (uint32_t)type);
         if (status != LEZGAURI_OK && made) theirs.destroy(name, type);
@@ -196,7 +227,8 @@ template <class Peer> struct Pair {
     }
 
     // Makes the same change in both; one that fails in one of them for lack of memory is taken back from the other.
-    template <class Change> bool boost_makes(Change change) {
+    template <class Change>
+    bool boost_makes(Change change) {
         try {
             change();
             return true;
@@ -237,10 +269,12 @@ template <class Peer> struct Pair {
                 bool assigns = any(3) == 0;
                 status = assigns ? lezgauri_assign(ours.handle, place, added.data(), added.size())
                                  : lezgauri_append(ours.handle, place, added.data(), added.size());
-                bool made = boost_makes([&] { assigns ? it->assign(added.begin(), added.end()) : it->append(added.begin(), added.end()); });
+                bool made = boost_makes(
+                    [&] { assigns ? it->assign(added.begin(), added.end()) : it->append(added.begin(), added.end()); });
                 if (status != LEZGAURI_OK) note_out_of_memory(0, 4 * (old.size() + added.size()) + 4096);
                 if (made && status != LEZGAURI_OK) it->assign(old.begin(), old.end());
-                if (!made && status == LEZGAURI_OK && lezgauri_assign(ours.handle, place, old.data(), old.size()) != LEZGAURI_OK)
+                if (!made && status == LEZGAURI_OK &&
+                    lezgauri_assign(ours.handle, place, old.data(), old.size()) != LEZGAURI_OK)
                     expect(false, "an old text has no room");
                 break;
             }
@@ -256,8 +290,10 @@ template <class Peer> struct Pair {
                 } else {
                     status = lezgauri_push_back(ours.handle, place, &inner);
                     bool made = boost_makes([&] { it->push_back(number); });
-                    if (status == LEZGAURI_OK) lezgauri_store(ours.handle, inner, number);
-                    else note_out_of_memory(0, 32 * it->size() + 4096);
+                    if (status == LEZGAURI_OK)
+                        lezgauri_store(ours.handle, inner, number);
+                    else
+                        note_out_of_memory(0, 32 * it->size() + 4096);
                     if (made && status != LEZGAURI_OK) it->pop_back();
                     if (!made && status == LEZGAURI_OK) lezgauri_pop_back(ours.handle, place);
                 }
@@ -271,21 +307,29 @@ template <class Peer> struct Pair {
                     expect(status == (it->empty() ? LEZGAURI_NO_VALUE : LEZGAURI_OK), "pop", status);
                     if (!it->empty()) front ? it->pop_front() : it->pop_back();
                 } else {
-                    status = front ? lezgauri_push_front(ours.handle, place, &inner) : lezgauri_push_back(ours.handle, place, &inner);
+                    status = front ? lezgauri_push_front(ours.handle, place, &inner)
+                                   : lezgauri_push_back(ours.handle, place, &inner);
                     bool made = boost_makes([&] { front ? it->push_front(number) : it->push_back(number); });
-                    if (status == LEZGAURI_OK) lezgauri_store(ours.handle, inner, number);
-                    else note_out_of_memory(0, 64);
+                    if (status == LEZGAURI_OK)
+                        lezgauri_store(ours.handle, inner, number);
+                    else
+                        note_out_of_memory(0, 64);
                     if (made && status != LEZGAURI_OK) front ? it->pop_front() : it->pop_back();
-                    if (!made && status == LEZGAURI_OK) front ? lezgauri_pop_front(ours.handle, place) : lezgauri_pop_back(ours.handle, place);
+                    if (!made && status == LEZGAURI_OK)
+                        front ? lezgauri_pop_front(ours.handle, place) : lezgauri_pop_back(ours.handle, place);
                 }
                 break;
             }
-            case MAP: change_map(theirs.template find<typename Peer::Map>(name), key, number); break;
-            default: change_map(theirs.template find<typename Peer::FlatMap>(name), key, number);
+            case MAP:
+                change_map(theirs.template find<typename Peer::Map>(name), key, number);
+                break;
+            default:
+                change_map(theirs.template find<typename Peer::FlatMap>(name), key, number);
         }
     }
 
-    template <class Map> void change_map(Map* it, int64_t key, int64_t number) {
+    template <class Map>
+    void change_map(Map* it, int64_t key, int64_t number) {
         lezgauri_place inner;
         if (any(3) == 0) {
             uint32_t status = lezgauri_remove(ours.handle, place, key);
@@ -296,8 +340,10 @@ template <class Peer> struct Pair {
         bool was_there = it->find(key) != it->end();
         uint32_t status = lezgauri_put(ours.handle, place, key, &inner);
         bool made = boost_makes([&] { (*it)[key] = number; });
-        if (status == LEZGAURI_OK) lezgauri_store(ours.handle, inner, number);
-        else note_out_of_memory(0, 64 * it->size() + 4096);
+        if (status == LEZGAURI_OK)
+            lezgauri_store(ours.handle, inner, number);
+        else
+            note_out_of_memory(0, 64 * it->size() + 4096);
         if (made && status != LEZGAURI_OK) it->erase(key);
         if (!made && status == LEZGAURI_OK) {
             expect(!was_there, "Boost refuses a key that is there");
@@ -308,11 +354,15 @@ template <class Peer> struct Pair {
     // An anonymous object is allocated and freed in both.
     void allocate() {
         uint32_t status = lezgauri_construct_anonymous(ours.handle, NUMBER, &place);
-        if (status == LEZGAURI_OK) expect(lezgauri_destroy_anonymous(ours.handle, place) == LEZGAURI_OK, "destroy anonymous");
-        else note_out_of_memory(0, 32);
+        if (status == LEZGAURI_OK)
+            expect(lezgauri_destroy_anonymous(ours.handle, place) == LEZGAURI_OK, "destroy anonymous");
+        else
+            note_out_of_memory(0, 32);
         void* block = theirs.manager()->allocate(8, std::nothrow);
-        if (block) theirs.manager()->deallocate(block);
-        else out_of_memory[1]++;
+        if (block)
+            theirs.manager()->deallocate(block);
+        else
+            out_of_memory[1]++;
     }
 
     void grow(size_t size) {
@@ -342,11 +392,12 @@ template <class Peer> struct Pair {
 
     void expect_number(lezgauri_place at, int64_t wanted) {
         int64_t number = 0;
-        expect(lezgauri_load(ours.handle, at, &number) == LEZGAURI_OK && number == wanted, "a number", (unsigned long long)number,
-               (unsigned long long)wanted);
+        expect(lezgauri_load(ours.handle, at, &number) == LEZGAURI_OK && number == wanted, "a number",
+               (unsigned long long)number, (unsigned long long)wanted);
     }
 
-    template <class List> void compare_items(const List* it) {
+    template <class List>
+    void compare_items(const List* it) {
         uint32_t index = 0, len = 0;
         lezgauri_len(ours.handle, place, &len);
         expect(len == it->size(), "a length", len, it->size());
@@ -357,7 +408,8 @@ template <class Peer> struct Pair {
         }
     }
 
-    template <class Map> void compare_keys(const Map* it) {
+    template <class Map>
+    void compare_keys(const Map* it) {
         int64_t key = 0;
         const int64_t* after = nullptr;
         for (const auto& entry : *it) {
@@ -378,7 +430,8 @@ template <class Peer> struct Pair {
                     lezgauri_find_item(ours.handle, name, NUMBER, i, &place);
                     expect_number(place, theirs.template find<int64_t>(name)[i]);
                 }
-                expect(lezgauri_find_item(ours.handle, name, NUMBER, (uint32_t)count, &place) == LEZGAURI_OUT_OF_RANGE, "one more");
+                expect(lezgauri_find_item(ours.handle, name, NUMBER, (uint32_t)count, &place) == LEZGAURI_OUT_OF_RANGE,
+                       "one more");
                 break;
             case STRING: {
                 auto* it = theirs.template find<typename Peer::String>(name);
@@ -386,10 +439,17 @@ template <class Peer> struct Pair {
                 expect(std::string(it->begin(), it->end()) == std::string((const char*)text.bytes, text.len), "a text");
                 break;
             }
-            case NUMBERS: compare_items(theirs.template find<typename Peer::Vector>(name)); break;
-            case LIST: compare_items(theirs.template find<typename Peer::List>(name)); break;
-            case MAP: compare_keys(theirs.template find<typename Peer::Map>(name)); break;
-            default: compare_keys(theirs.template find<typename Peer::FlatMap>(name));
+            case NUMBERS:
+                compare_items(theirs.template find<typename Peer::Vector>(name));
+                break;
+            case LIST:
+                compare_items(theirs.template find<typename Peer::List>(name));
+                break;
+            case MAP:
+                compare_keys(theirs.template find<typename Peer::Map>(name));
+                break;
+            default:
+                compare_keys(theirs.template find<typename Peer::FlatMap>(name));
         }
     }
 
@@ -415,11 +475,21 @@ template <class Peer> struct Pair {
             choose();
             calls++;
             switch (any(12)) {
-                case 0: case 1: construct(); break;
-                case 2: destroy(); break;
-                case 3: allocate(); break;
-                case 4: if (any(10) == 0) grow(16 * (1 + any(100))); break;
-                default: change();
+                case 0:
+                case 1:
+                    construct();
+                    break;
+                case 2:
+                    destroy();
+                    break;
+                case 3:
+                    allocate();
+                    break;
+                case 4:
+                    if (any(10) == 0) grow(16 * (1 + any(100)));
+                    break;
+                default:
+                    change();
             }
         }
         compare();
@@ -437,7 +507,8 @@ int main(int argc, char** argv) {
         Pair<Seq>(size, LEZGAURI_SEQ_FIT, LEZGAURI_FLAT_INDEX).run();
         Pair<Best>(size, LEZGAURI_BEST_FIT, LEZGAURI_TREE_INDEX).run();
     }
-    std::printf("%d sequences, %llu calls, %llu refused by both; out of memory: Lezgauri %llu, Boost %llu; %llu differences\n", 2 * count,
-                calls, refused, out_of_memory[0], out_of_memory[1], differences);
+    std::printf(
+        "%d sequences, %llu calls, %llu refused by both; out of memory: Lezgauri %llu, Boost %llu; %llu differences\n",
+        2 * count, calls, refused, out_of_memory[0], out_of_memory[1], differences);
     return differences > 0;
 }

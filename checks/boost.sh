@@ -1,14 +1,15 @@
 #!/usr/bin/env bash
-# Builds and runs checks/boost.cpp, which makes the same random calls on a segment of Lezgauri and on one of Boost.Interprocess:
-# checks/boost.sh [COUNT] [SEED]. Needs a C++ compiler, libboost-dev, and the library crates/lezgauri_c/out/liblezgauri.a, or LIBRARY.
-# If there is no Boost, the status is 77.
+# Builds and runs checks/boost.cpp, which makes the same random calls on a segment of Lezgauri and on one of
+# Boost.Interprocess: checks/boost.sh [COUNT] [SEED]. Needs a C++ compiler, libboost-dev, and the library
+# crates/lezgauri_c/out/liblezgauri.a, or LIBRARY. If there is no Boost, the status is 77.
 set -eu
 here=$(cd "$(dirname "$0")" && pwd)
 crate=$here/../crates/lezgauri_c
 library=$(realpath "${LIBRARY:-$crate/out/liblezgauri.a}")
 work=$(mktemp -d)
 trap 'rm -rf "$work"' EXIT
-if ! echo '#include <boost/interprocess/managed_external_buffer.hpp>' | "${CXX:-c++}" -x c++ -fsyntax-only - 2> "$work/err"; then
+header=boost/interprocess/managed_external_buffer.hpp
+if ! echo "#include <$header>" | "${CXX:-c++}" -x c++ -fsyntax-only - 2> "$work/err"; then
   echo "no Boost"
   exit 77
 fi

@@ -1,10 +1,10 @@
 // Loaded before the C library. Makes calls on files fail.
 //
-// FAIL=NAME     of the calls that finish a file (permissions, sync-file, sync-folder, rename), those with this name fail. The name
-//               of each such call is written to the file in CALLS.
-// FAIL_AT=N     call N of all calls on files fails, counted from 1, in the way of FAIL_WITH: a number is the error; `short` reads
-//               or writes a part only; `kill` ends the process before the call, and `killed` after it. The names of all calls,
-//               with the descriptor if they have one, are written to the file in ALL_CALLS.
+// FAIL=NAME     of the calls that finish a file (permissions, sync-file, sync-folder, rename), those with this name
+//               fail. The name of each such call is written to the file in CALLS.
+// FAIL_AT=N     call N of all calls on files fails, counted from 1, in the way of FAIL_WITH: a number is the error;
+//               `short` reads or writes a part only; `kill` ends the process before the call, and `killed` after it.
+//               The names of all calls, with the descriptor if they have one, are written to the file in ALL_CALLS.
 #define _GNU_SOURCE
 #include <dlfcn.h>
 #include <errno.h>

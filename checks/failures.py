@@ -3,13 +3,15 @@
 
     failures.py [SEGTOOL] [--only WORD]
 
-The library fail.c counts a command's calls: open, read, write, sync, rename, close, the calls that ask for a file's metadata, and
-others. Each call then fails once with each of these errors: no space (ENOSPC), a broken disk (EIO), an interruption (EINTR), no memory
-(ENOMEM); it reads or writes only a part; and the command is killed before it and after it. Afterwards:
+The library fail.c counts a command's calls: open, read, write, sync, rename, close, the calls that ask for a file's
+metadata, and others. Each call then fails once with each of these errors: no space (ENOSPC), a broken disk (EIO), an
+interruption (EINTR), no memory (ENOMEM); it reads or writes only a part; and the command is killed before it and
+after it. Afterwards:
 
 - A command that reports success has printed and written what it should.
-- Another one reports status 3 with `file NAME` as its whole message, or `fault 1` if memory was refused, and has changed no file. It may
-  have written the new file only if the output failed, or if the last sync of a folder did, as docs/FORMATS.md states.
+- Another one reports status 3 with `file NAME` as its whole message, or `fault 1` if memory was refused, and has
+  changed no file. It may have written the new file only if the output failed, or if the last sync of a folder did, as
+  docs/FORMATS.md states.
 - After an interruption, or a part, the command succeeds.
 - A killed command leaves the old file or the new one whole, and at most one new file beside it.
 - A command that refuses to write over a file still does so: no failure makes it write there.
@@ -102,7 +104,7 @@ class Failures(Check):
         untold = name.startswith("write") and descriptor == "2"
         if ran.returncode == wanted.returncode and (ran.stderr == wanted.stderr or untold):
             if not is_new:
-                return "it succeeded, and the files are wrong" if ran.returncode == 0 else "it refused, and a file has changed"
+                return "the files are wrong"
             return None if ran.stdout == wanted.stdout else "it printed something else"
         if way == "short" or way == "EINTR" and name in ("read", "write", "writev", "open", "fsync", "fdatasync"):
             return "it doesn't continue"
@@ -124,7 +126,8 @@ class Failures(Check):
         if target and now.get(target) not in (before.get(target), after[target]):
             return f"{target} is neither the old file nor the new one"
         others = [name for name in now.keys() | before.keys() if name != target and now.get(name) != before.get(name)]
-        beside = [name for name in others if re.fullmatch(re.escape(target) + r"\.[1-9][0-9]*\.new", name) and name not in before]
+        pattern = re.compile(re.escape(target) + r"\.[1-9][0-9]*\.new")
+        beside = [name for name in others if pattern.fullmatch(name) and name not in before]
         return None if others == beside and len(beside) <= 1 else f"changed: {' '.join(others)}"
 
 

@@ -1,7 +1,7 @@
 #!/usr/bin/env bash
-# Fuzzes the library for C: checks/fuzz.sh [--sanitized | --libfuzzer] SECONDS [SEED]
-# Runs each target of fuzz/ for a part of the time, with one seed after the other, SEED first, 1 if it isn't given. Prints for each
-# target what was done. Without an option it needs a C compiler alone, else clang. LIBRARY may name the static library, which is
+# Fuzzes the library for C: checks/fuzz.sh [--sanitized | --libfuzzer] SECONDS [SEED]. Runs each target of fuzz/ for a
+# part of the time, with one seed after the other, SEED first, 1 if it isn't given. Prints for each target what was
+# done. Without an option it needs a C compiler alone, else clang. LIBRARY may name the static library, which is
 # crates/lezgauri_c/out/liblezgauri.a otherwise. fuzz/README.md describes the targets.
 set -eu
 here=$(cd "$(dirname "$0")" && pwd)

@@ -1,13 +1,14 @@
 #!/usr/bin/env bash
-# Kills runs on one file at random moments: checks/kill.sh [COUNT] [SEED]
-# COUNT is the number of runs, 1,000 if it isn't given; SEED is 1. Each run changes each page of the image. Meanwhile two readers
-# check the file in a loop, and must find it sound each time. After each run the file must be the old image or the new one.
+# Kills runs on one file at random moments: checks/kill.sh [COUNT] [SEED]. COUNT is the number of runs, 1,000 if it
+# isn't given; SEED is 1. Each run changes each page of the image. Meanwhile two readers check the file in a loop, and
+# must find it sound each time. After each run the file must be the old image or the new one.
 #
-# A killed run can leave a file NAME.1.new, or one with a higher number, as docs/FORMATS.md states, and nothing else. The files are
-# left until there are 100, which are all names that are tried. Then a run must fail with status 3, tell which file failed, and
-# change nothing. After the removal of these files runs succeed again.
+# A killed run can leave a file NAME.1.new, or one with a higher number, as docs/FORMATS.md states, and nothing else.
+# The files are left until there are 100, which are all names that are tried. Then a run must fail with status 3, tell
+# which file failed, and change nothing. After the removal of these files runs succeed again.
 #
-# Prints how many runs were killed, and what they left. Needs Python 3, and the program in crates/segtool/out, or SEGTOOL.
+# Prints how many runs were killed, and what they left. Needs Python 3, and the program in crates/segtool/out, or
+# SEGTOOL.
 set -eu
 here=$(cd "$(dirname "$0")" && pwd)
 SEGTOOL=$(realpath "${SEGTOOL:-$here/../crates/segtool/out/segtool}")
@@ -119,7 +120,8 @@ class Killed:
         self.is_over = True
         for reader in readers:
             reader.join()
-        print(f"{count} runs of {times[10] * 1000:.1f} ms: {killed} were killed, of which {saved} had saved the new image; "
+        print(f"{count} runs of {times[10] * 1000:.1f} ms: {killed} were killed, "
+              f"of which {saved} had saved the new image; "
               f"{left} new files were left, and all 100 names were taken {filled} times; "
               f"{self.checks} checks by readers; {len(self.wrong)} wrong")
 

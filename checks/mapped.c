@@ -1,12 +1,13 @@
 /*
  * Stops work on images that are mapped or changed in place, and tests what lezgauri.h promises then:
  *
- * - Opening an image finds out whether it is still sound: lezgauri_open_in, lezgauri_read and lezgauri_check agree, write nothing, and
- *   don't read outside. If the image is sound, work on it continues, and leaves it sound.
- * - lezgauri_run_whole changes the image only after the client's end, by one copy. So the image of a run that is stopped before is
- *   unchanged, and in one that is stopped later each byte is an old one or a new one.
+ * - Opening an image finds out whether it is still sound: lezgauri_open_in, lezgauri_read and lezgauri_check agree,
+ * write nothing, and don't read outside. If the image is sound, work on it continues, and leaves it sound.
+ * - lezgauri_run_whole changes the image only after the client's end, by one copy. So the image of a run that is
+ * stopped before is unchanged, and in one that is stopped later each byte is an old one or a new one.
  *
- *   mapped COUNT [SEED]     COUNT images with old and new pages, COUNT killed workers, and COUNT killed runs by lezgauri_run_whole
+ *   mapped COUNT [SEED]     COUNT images with old and new pages, COUNT killed workers, and COUNT killed runs by
+ * lezgauri_run_whole
  *
  * Prints each wrong result, and then how many images were sound.
  */
@@ -66,10 +67,10 @@ static uint8_t *new_memory(int file)
 enum { NUMBER, STRING, NUMBERS, LIST, MAP, FLAT_MAP, OWN, SHARED, TYPES };
 
 static const lezgauri_type types[TYPES] = {
-    [NUMBER] = {LEZGAURI_KIND_I64, 0, {0}, {0}},        [STRING] = {LEZGAURI_KIND_STR, 0, {0}, {0}},
-    [NUMBERS] = {LEZGAURI_KIND_VEC, 1, {NUMBER}, {0}},  [LIST] = {LEZGAURI_KIND_LIST, 1, {STRING}, {0}},
-    [MAP] = {LEZGAURI_KIND_MAP, 1, {STRING}, {0}},      [FLAT_MAP] = {LEZGAURI_KIND_FLAT_MAP, 1, {NUMBER}, {0}},
-    [OWN] = {LEZGAURI_KIND_OWN, 1, {STRING}, {0}},      [SHARED] = {LEZGAURI_KIND_SHARED, 1, {STRING}, {0}},
+    [NUMBER] = {LEZGAURI_KIND_I64, 0, {0}, {0}},       [STRING] = {LEZGAURI_KIND_STR, 0, {0}, {0}},
+    [NUMBERS] = {LEZGAURI_KIND_VEC, 1, {NUMBER}, {0}}, [LIST] = {LEZGAURI_KIND_LIST, 1, {STRING}, {0}},
+    [MAP] = {LEZGAURI_KIND_MAP, 1, {STRING}, {0}},     [FLAT_MAP] = {LEZGAURI_KIND_FLAT_MAP, 1, {NUMBER}, {0}},
+    [OWN] = {LEZGAURI_KIND_OWN, 1, {STRING}, {0}},     [SHARED] = {LEZGAURI_KIND_SHARED, 1, {STRING}, {0}},
 };
 
 static void create(uint8_t *memory, lezgauri_handle **segment)
@@ -93,12 +94,8 @@ static void change(lezgauri_handle *segment)
         return;
     }
     switch (type) {
-    case NUMBER:
-        lezgauri_store(segment, place, any(1000));
-        break;
-    case STRING:
-        lezgauri_append(segment, place, text, any(sizeof text));
-        break;
+    case NUMBER: lezgauri_store(segment, place, any(1000)); break;
+    case STRING: lezgauri_append(segment, place, text, any(sizeof text)); break;
     case NUMBERS:
         if (lezgauri_push_back(segment, place, &inner) == LEZGAURI_OK) {
             lezgauri_store(segment, inner, any(1000));
@@ -143,10 +140,12 @@ static bool is_usable(uint8_t *memory)
     uint32_t status = lezgauri_check(memory, SIZE, &one);
     expect("open_in and check", lezgauri_open_in(memory, SIZE, SIZE, &segment, &two), status);
     expect("read and check", lezgauri_read(memory, SIZE, &reader, &three), status);
-    expect("a handle exactly if the image is sound", (segment != NULL) + (reader != NULL), status == LEZGAURI_OK ? 2 : 0);
+    expect("a handle exactly if the image is sound", (segment != NULL) + (reader != NULL),
+           status == LEZGAURI_OK ? 2 : 0);
     expect("opening writes nothing", memcmp(before, memory, SIZE), 0);
     if (status != LEZGAURI_OK) {
-        expect("a fault of an image", status == LEZGAURI_BAD_TYPE || (status >= LEZGAURI_BAD_HEADER && status <= LEZGAURI_BAD_VALUE), 1);
+        expect("a fault of an image",
+               status == LEZGAURI_BAD_TYPE || (status >= LEZGAURI_BAD_HEADER && status <= LEZGAURI_BAD_VALUE), 1);
         expect("the same position", one.position == two.position && one.position == three.position, 1);
         return false;
     }
@@ -260,8 +259,9 @@ static int kill_workers(int count)
 }
 
 /* A client that changes a number in each of its turns. */
-static const char turns[] = "type i64\nname turns\nCONST r1 1\nFINDOR r0 - t0 k0\nWHILE r1 200000\nLOAD r2 r0\nADD r2 r2 r1\n"
-                            "STORE r0 r2\nEND\nELSE\nEND\n";
+static const char turns[] =
+    "type i64\nname turns\nCONST r1 1\nFINDOR r0 - t0 k0\nWHILE r1 200000\nLOAD r2 r0\nADD r2 r2 r1\n"
+    "STORE r0 r2\nEND\nELSE\nEND\n";
 static uint8_t client[512];
 static size_t client_len;
 
@@ -289,8 +289,10 @@ static void kill_runs(int count)
     int unchanged = 0, whole = 0, file = new_file();
     uint8_t *memory = new_memory(file);
     lezgauri_handle *segment;
-    expect("assembled", lezgauri_assemble(turns, sizeof turns - 1, client, sizeof client, &client_len, NULL), LEZGAURI_OK);
-    expect("created", lezgauri_create_in(memory, SIZE, SIZE, LEZGAURI_BEST_FIT, LEZGAURI_TREE_INDEX, &segment), LEZGAURI_OK);
+    expect("assembled", lezgauri_assemble(turns, sizeof turns - 1, client, sizeof client, &client_len, NULL),
+           LEZGAURI_OK);
+    expect("created", lezgauri_create_in(memory, SIZE, SIZE, LEZGAURI_BEST_FIT, LEZGAURI_TREE_INDEX, &segment),
+           LEZGAURI_OK);
     lezgauri_close(segment);
     memcpy(old, memory, SIZE);
     long begun = now();
@@ -314,8 +316,8 @@ static void kill_runs(int count)
             }
         }
     }
-    printf("%d runs by lezgauri_run_whole were killed: %d images unchanged, %d new, %d with a part of the copy\n", count, unchanged,
-           whole, count - unchanged - whole);
+    printf("%d runs by lezgauri_run_whole were killed: %d images unchanged, %d new, %d with a part of the copy\n",
+           count, unchanged, whole, count - unchanged - whole);
     munmap(memory, SIZE + PAGE);
     close(file);
 }

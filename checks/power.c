@@ -1,5 +1,6 @@
-// Loaded before the C library. Writes a line to the file in CALLS_LOG for each call that changes a file or a folder, or that
-// waits until a change is on the disk, in the order of the calls. checks/power.py reads the lines. A call that fails has none.
+// Loaded before the C library. Writes a line to the file in CALLS_LOG for each call that changes a file or a folder,
+// or that waits until a change is on the disk, in the order of the calls. checks/power.py reads the lines. A call that
+// fails has none.
 //
 //   open DESCRIPTOR INODE KIND MADE EMPTIED PATH    KIND is `file`, `folder` or `other`; MADE and EMPTIED are 0 or 1
 //   write DESCRIPTOR OFFSET HEX

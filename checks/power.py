@@ -3,19 +3,21 @@
 
     power.py [SEGTOOL] [--only WORD]
 
-The library power.c records what a command does to files. Each prefix of the record is then replayed on a copy of the folder, in each
-state that the disk may be in after a power cut. The model promises less than most file systems:
+The library power.c records what a command does to files. Each prefix of the record is then replayed on a copy of the
+folder, in each state that the disk may be in after a power cut. The model promises less than most file systems:
 
-- A write is on the disk for sure only after a sync of its file. Until then each of its pages may be there, or not, or only its first
-  sectors of 512 bytes; and the file may have its new length, with zeros where a page is missing.
-- The making, renaming and removing of a name are on the disk for sure only after a sync of the folder. Until then each of them may be
-  there or not, in any combination, and the old name may be there beside the new one. A name always refers to one whole file.
+- A write is on the disk for sure only after a sync of its file. Until then each of its pages may be there, or not, or
+  only its first sectors of 512 bytes; and the file may have its new length, with zeros where a page is missing.
+- The making, renaming and removing of a name are on the disk for sure only after a sync of the folder. Until then
+  each of them may be there or not, in any combination, and the old name may be there beside the new one. A name
+  always refers to one whole file.
 
-In each state the file that the command writes must be the old one or the new one, byte for byte; after a success it must be the new
-one. Every other file must be as it was, except new files with the names that docs/FORMATS.md promises. `segtool check` must accept each
-image, and the same command must work on what the power cut left.
+In each state the file that the command writes must be the old one or the new one, byte for byte; after a success it
+must be the new one. Every other file must be as it was, except new files with the names that docs/FORMATS.md
+promises. `segtool check` must accept each image, and the same command must work on what the power cut left.
 
-At the end the check is checked: with a kind of sync left out of the record, it must find a wrong state. Needs a C compiler."""
+At the end the check is checked: with a kind of sync left out of the record, it must find a wrong state. Needs a C
+compiler."""
 import argparse
 import itertools
 import os

@@ -1,9 +1,9 @@
 #!/usr/bin/env bash
-# Runs all checks, and writes a report: checks/release.sh [--quick] [FOLDER]
-# FOLDER, `out/release` if it isn't given, gets the report `report.md`, and what each check printed in `NAME.log`. The report has the
-# versions of the programs that were used, and for each check its result, its time and its last line. --quick runs fewer random
-# inputs, and neither `rt ci` nor the second build. The status is 1 if a check failed. Needs what the checks need (docs/TESTING.md),
-# and what `make` builds.
+# Runs all checks, and writes a report: checks/release.sh [--quick] [FOLDER]. FOLDER, `out/release` if it isn't given,
+# gets the report `report.md`, and what each check printed in `NAME.log`. The report has the versions of the programs
+# that were used, and for each check its result, its time and its last line. --quick runs fewer random inputs, and
+# neither `rt ci` nor the second build. The status is 1 if a check failed. Needs what the checks need
+# (docs/TESTING.md), and what `make` builds.
 set -u
 here=$(cd "$(dirname "$0")" && pwd)
 root=$(dirname "$here")

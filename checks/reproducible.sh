@@ -1,6 +1,7 @@
 #!/usr/bin/env bash
-# Builds segtool and the library for C twice, in copies of the repository in different folders, and compares the bytes. Takes a minute
-# or two if the proofs are kept on this machine, and twice as long as `make` if they aren't. Needs the toolchain `rt` and a C compiler.
+# Builds segtool and the library for C twice, in copies of the repository in different folders, and compares the
+# bytes. Takes a minute or two if the proofs are kept on this machine, and twice as long as `make` if they aren't.
+# Needs the toolchain `rt` and a C compiler.
 set -eu
 here=$(cd "$(dirname "$0")" && pwd)
 root=$(dirname "$here")

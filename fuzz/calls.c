@@ -1,8 +1,8 @@
 /*
- * The target `calls`: random calls on four segments at once, with each allocator and each index. Two of the segments are in memory from
- * malloc, and two in lent memory, on which two handles take turns. A call has the same arguments on all segments, with places that it
- * finds by the same way through the objects. As long as no segment was out of memory, statuses and values must agree, and so must all
- * objects. Each image stays sound. A call that fails changes no object.
+ * The target `calls`: random calls on four segments at once, with each allocator and each index. Two of the segments
+ * are in memory from malloc, and two in lent memory, on which two handles take turns. A call has the same arguments on
+ * all segments, with places that it finds by the same way through the objects. As long as no segment was out of memory,
+ * statuses and values must agree, and so must all objects. Each image stays sound. A call that fails changes no object.
  *
  * Some calls are made with each of their requests for host memory refused in turn: then the segment is unchanged.
  */
@@ -11,7 +11,16 @@
 #include <stdlib.h>
 #include <string.h>
 
-enum { SIDES = 4, WAY = 8, ROOM = 1 << 17, MOST_GROWS = 8, MOST_CALLS = 400, CHECK_EACH = 8, KEPT_CLIENTS = 2, MOST_TEXT = 300 };
+enum {
+    SIDES = 4,
+    WAY = 8,
+    ROOM = 1 << 17,
+    MOST_GROWS = 8,
+    MOST_CALLS = 400,
+    CHECK_EACH = 8,
+    KEPT_CLIENTS = 2,
+    MOST_TEXT = 300
+};
 
 typedef struct side {
     lezgauri_handle *handle, *other; /* `other` is null unless the memory is lent */
@@ -19,10 +28,39 @@ typedef struct side {
 } side;
 
 enum operation {
-    CONSTRUCT, FIND_OR_CONSTRUCT, DESTROY, CONSTRUCT_UNIQUE, FIND_OR_CONSTRUCT_UNIQUE, DESTROY_UNIQUE, STORE_NUMBER, ASSIGN, APPEND,
-    PUSH_BACK, PUSH_FRONT, POP_BACK, POP_FRONT, PUT_KEY, REMOVE_KEY, PUT_CONTENT, CLEAR_VALUE, SHRINK_TO_FIT, FREEZE_OBJECT,
-    SHARE_OBJECT, ANONYMOUS, UPGRADE, GROW, SHRINK_SEGMENT, REOPEN, RUN_ON, RUN_WHOLE, PREPARE, RUN_PREPARED, READ, OTHER_TYPE,
-    SWAP_HANDLES, OPERATIONS
+    CONSTRUCT,
+    FIND_OR_CONSTRUCT,
+    DESTROY,
+    CONSTRUCT_UNIQUE,
+    FIND_OR_CONSTRUCT_UNIQUE,
+    DESTROY_UNIQUE,
+    STORE_NUMBER,
+    ASSIGN,
+    APPEND,
+    PUSH_BACK,
+    PUSH_FRONT,
+    POP_BACK,
+    POP_FRONT,
+    PUT_KEY,
+    REMOVE_KEY,
+    PUT_CONTENT,
+    CLEAR_VALUE,
+    SHRINK_TO_FIT,
+    FREEZE_OBJECT,
+    SHARE_OBJECT,
+    ANONYMOUS,
+    UPGRADE,
+    GROW,
+    SHRINK_SEGMENT,
+    REOPEN,
+    RUN_ON,
+    RUN_WHOLE,
+    PREPARE,
+    RUN_PREPARED,
+    READ,
+    OTHER_TYPE,
+    SWAP_HANDLES,
+    OPERATIONS
 };
 
 /* A call, with the same arguments for all segments. */
@@ -43,8 +81,7 @@ static uint8_t client[MOST_CLIENT];
 static size_t client_len;
 
 static const char *const names[] = {
-    "a", "b", "aa", "ab", "B", "~",
-    "!23456789012345678901234567890123456789012345678901234567890123", "x#1",
+    "a", "b", "aa", "ab", "B", "~", "!23456789012345678901234567890123456789012345678901234567890123", "x#1",
 };
 enum { NAMES = sizeof names / sizeof *names };
 
@@ -88,8 +125,7 @@ static bool go_in(const lezgauri_handle *segment, uint32_t choice, lezgauri_plac
     uint32_t len;
     int64_t key;
     switch (type->kind) {
-    case LEZGAURI_KIND_STRUCT:
-        return lezgauri_field(segment, *place, choice % type->count, place) == LEZGAURI_OK;
+    case LEZGAURI_KIND_STRUCT: return lezgauri_field(segment, *place, choice % type->count, place) == LEZGAURI_OK;
     case LEZGAURI_KIND_VEC:
     case LEZGAURI_KIND_LIST:
         return lezgauri_len(segment, *place, &len) == LEZGAURI_OK && len > 0 &&
@@ -103,26 +139,33 @@ static bool go_in(const lezgauri_handle *segment, uint32_t choice, lezgauri_plac
         }
         return lezgauri_get(segment, *place, key, place) == LEZGAURI_OK;
     }
-    case LEZGAURI_KIND_OWN:
-        return lezgauri_content(segment, *place, place) == LEZGAURI_OK;
-    default:
-        return false;
+    case LEZGAURI_KIND_OWN: return lezgauri_content(segment, *place, place) == LEZGAURI_OK;
+    default: return false;
     }
 }
 
 /* The kinds that a call takes, as bits. */
 static uint32_t kinds_of(enum operation operation)
 {
-    enum { STR = 1 << LEZGAURI_KIND_STR, VEC = 1 << LEZGAURI_KIND_VEC, LIST = 1 << LEZGAURI_KIND_LIST,
-           FLAT = 1 << LEZGAURI_KIND_FLAT_MAP, MAP = 1 << LEZGAURI_KIND_MAP };
+    enum {
+        STR = 1 << LEZGAURI_KIND_STR,
+        VEC = 1 << LEZGAURI_KIND_VEC,
+        LIST = 1 << LEZGAURI_KIND_LIST,
+        FLAT = 1 << LEZGAURI_KIND_FLAT_MAP,
+        MAP = 1 << LEZGAURI_KIND_MAP
+    };
     switch (operation) {
     case STORE_NUMBER: return 1 << LEZGAURI_KIND_I64;
-    case ASSIGN: case APPEND: return STR;
+    case ASSIGN:
+    case APPEND: return STR;
     case PUSH_BACK: return VEC | LIST;
-    case PUSH_FRONT: case POP_FRONT: return LIST;
+    case PUSH_FRONT:
+    case POP_FRONT: return LIST;
     case POP_BACK: return STR | VEC | LIST;
-    case PUT_KEY: case REMOVE_KEY: return FLAT | MAP;
-    case PUT_CONTENT: case FREEZE_OBJECT: return 1 << LEZGAURI_KIND_OWN;
+    case PUT_KEY:
+    case REMOVE_KEY: return FLAT | MAP;
+    case PUT_CONTENT:
+    case FREEZE_OBJECT: return 1 << LEZGAURI_KIND_OWN;
     case SHRINK_TO_FIT: return STR | VEC | FLAT;
     case SHARE_OBJECT: return 1 << LEZGAURI_KIND_SHARED;
     default: return ~0u;
@@ -130,7 +173,8 @@ static uint32_t kinds_of(enum operation operation)
 }
 
 /* Finds a place of one of these kinds. `start` is the number of its object. */
-static bool find_place(const lezgauri_handle *segment, const uint8_t *way, uint32_t kinds, lezgauri_place *found, uint32_t *start)
+static bool find_place(const lezgauri_handle *segment, const uint8_t *way, uint32_t kinds, lezgauri_place *found,
+                       uint32_t *start)
 {
     for (uint32_t tried = 0; tried < 8; tried++) {
         lezgauri_place place;
@@ -221,14 +265,16 @@ static uint32_t make(side *at, const call *it, lezgauri_place place, lezgauri_pl
     case STORE_NUMBER: {
         int64_t number = 0;
         status = lezgauri_store(h, place, it->key);
-        NEED(status != LEZGAURI_OK || (lezgauri_load(h, place, &number) == LEZGAURI_OK && number == it->key), "another number");
+        NEED(status != LEZGAURI_OK || (lezgauri_load(h, place, &number) == LEZGAURI_OK && number == it->key),
+             "another number");
         return status;
     }
     case ASSIGN: {
         lezgauri_bytes bytes;
         status = lezgauri_assign(h, place, text, it->number % MOST_TEXT);
         if (status == LEZGAURI_OK) {
-            NEED(lezgauri_text(h, place, &bytes) == LEZGAURI_OK && bytes.len == it->number % MOST_TEXT, "another length");
+            NEED(lezgauri_text(h, place, &bytes) == LEZGAURI_OK && bytes.len == it->number % MOST_TEXT,
+                 "another length");
             NEED(bytes.len == 0 || memcmp(bytes.bytes, text, bytes.len) == 0, "another text");
         }
         return status;
@@ -242,7 +288,8 @@ static uint32_t make(side *at, const call *it, lezgauri_place place, lezgauri_pl
         lezgauri_place again;
         status = lezgauri_put(h, place, it->key, &made);
         if (status == LEZGAURI_OK) {
-            NEED(lezgauri_get(h, place, it->key, &again) == LEZGAURI_OK && again.at == made.at, "get doesn't find what put made");
+            NEED(lezgauri_get(h, place, it->key, &again) == LEZGAURI_OK && again.at == made.at,
+                 "get doesn't find what put made");
         }
         return status;
     }
@@ -274,7 +321,8 @@ static uint32_t make(side *at, const call *it, lezgauri_place place, lezgauri_pl
         status = lezgauri_run_on(h, client, client_len, "input", 5, printed, sizeof printed, &written, &report, NULL);
         break;
     case RUN_WHOLE:
-        status = lezgauri_run_whole(h, client, client_len, "input", 5, printed, sizeof printed, &written, &report, NULL);
+        status =
+            lezgauri_run_whole(h, client, client_len, "input", 5, printed, sizeof printed, &written, &report, NULL);
         break;
     case PREPARE: {
         lezgauri_client *prepared;
@@ -289,16 +337,16 @@ static uint32_t make(side *at, const call *it, lezgauri_place place, lezgauri_pl
         if (kept[it->number % KEPT_CLIENTS] == NULL) {
             return LEZGAURI_OK;
         }
-        status = lezgauri_run_client(h, kept[it->number % KEPT_CLIENTS], "input", 5, printed, sizeof printed, &written, &report, NULL);
+        status = lezgauri_run_client(h, kept[it->number % KEPT_CLIENTS], "input", 5, printed, sizeof printed, &written,
+                                     &report, NULL);
         break;
-    case READ:
-        *result = read_all(h, it, place);
-        return LEZGAURI_OK;
+    case READ: *result = read_all(h, it, place); return LEZGAURI_OK;
     case OTHER_TYPE: {
         lezgauri_place wrong_type = {place.at, LEZGAURI_MOST_TYPES + it->number};
         int64_t number;
         status = lezgauri_load(h, wrong_type, &number);
-        NEED(status == LEZGAURI_OTHER_TYPE && lezgauri_clear(h, wrong_type) == status, "a type that isn't there is taken");
+        NEED(status == LEZGAURI_OTHER_TYPE && lezgauri_clear(h, wrong_type) == status,
+             "a type that isn't there is taken");
         return status;
     }
     default: return LEZGAURI_OK;
@@ -342,7 +390,8 @@ static void reopen(side *at)
     NEED(lezgauri_save(at->handle, saved, size, NULL) == LEZGAURI_OK, "not saved");
     for (unsigned request = 1;; request++) {
         refuse_request(request);
-        uint32_t status = at->lent == NULL ? lezgauri_open(saved, size, &again, NULL) : lezgauri_open_in(saved, size, room, &again, NULL);
+        uint32_t status = at->lent == NULL ? lezgauri_open(saved, size, &again, NULL)
+                                           : lezgauri_open_in(saved, size, room, &again, NULL);
         refuse_request(0);
         if (status == LEZGAURI_OK) {
             break;
@@ -401,7 +450,8 @@ static void need_sound(const side *at, const call *it)
     NEED(lezgauri_image(at->handle, &image) == LEZGAURI_OK, "no image");
     uint32_t status = lezgauri_check(image.bytes, image.len, &fault);
     NEED(status == LEZGAURI_OK, "after call %d the image has fault %u at %u", it->operation, status, fault.position);
-    NEED(lezgauri_free_memory(at->handle, &all, &largest) == LEZGAURI_OK && largest <= all && all < image.len, "free memory");
+    NEED(lezgauri_free_memory(at->handle, &all, &largest) == LEZGAURI_OK && largest <= all && all < image.len,
+         "free memory");
 }
 
 /* Makes a call on all segments. */
@@ -455,7 +505,8 @@ static void make_on_all(const call *it, bool refuses, bool compares)
         if (compares) {
             need_sound(at, it);
             if (status[i] != LEZGAURI_OK && !runs_in_place(it->operation)) {
-                NEED(hash_objects(at->handle) == before, "call %d fails with %u and changes an object", it->operation, status[i]);
+                NEED(hash_objects(at->handle) == before, "call %d fails with %u and changes an object", it->operation,
+                     status[i]);
             }
         }
     }
@@ -465,7 +516,8 @@ static void make_on_all(const call *it, bool refuses, bool compares)
     for (int i = 1; i < SIDES && !is_short; i++) {
         bool is_run = it->operation == RUN_ON || it->operation == RUN_WHOLE || it->operation == RUN_PREPARED;
         if (status[i] != status[0] || result[i] != result[0]) {
-            NEED(was_out || is_run, "call %d returns %u on segment %d and %u on segment 0", it->operation, status[i], i, status[0]);
+            NEED(was_out || is_run, "call %d returns %u on segment %d and %u on segment 0", it->operation, status[i], i,
+                 status[0]);
             is_short = true;
         }
     }
@@ -501,7 +553,8 @@ static void begin(choices *from)
         *at = (side){NULL, NULL, NULL};
         if (i == 1 || i == 2) {
             at->lent = guarded(2 * ROOM);
-            NEED(lezgauri_create_in(at->lent, 2 * ROOM, size, allocator, index, &at->handle) == LEZGAURI_OK, "not created");
+            NEED(lezgauri_create_in(at->lent, 2 * ROOM, size, allocator, index, &at->handle) == LEZGAURI_OK,
+                 "not created");
         } else {
             NEED(lezgauri_create(size, allocator, index, &at->handle) == LEZGAURI_OK, "not created");
         }

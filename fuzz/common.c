@@ -136,9 +136,15 @@ uint64_t counters[COUNTERS];
 void print_counters(void)
 {
     static const char *const names[COUNTERS] = {
-        [SOUND_IMAGES] = "sound images", [FAULTY_IMAGES] = "images with a fault", [ACCEPTED] = "accepted clients",
-        [REFUSED] = "refused clients",   [RUNS] = "runs",                         [TEXTS] = "texts of clients",
-        [BAD_TEXTS] = "other texts",     [CALLS] = "calls",                       [SHORT_CALLS] = "calls out of memory",
+        [SOUND_IMAGES] = "sound images",
+        [FAULTY_IMAGES] = "images with a fault",
+        [ACCEPTED] = "accepted clients",
+        [REFUSED] = "refused clients",
+        [RUNS] = "runs",
+        [TEXTS] = "texts of clients",
+        [BAD_TEXTS] = "other texts",
+        [CALLS] = "calls",
+        [SHORT_CALLS] = "calls out of memory",
         [REFUSALS] = "refused requests for host memory",
     };
     const char *comma = "";

@@ -1,4 +1,5 @@
-/* What the parts of the fuzzer share: random choices, memory, failures, the generators and mutators, and the targets. */
+/* What the parts of the fuzzer share: random choices, memory, failures, the generators and mutators, and the targets.
+ */
 #ifndef FUZZ_H
 #define FUZZ_H
 
@@ -37,11 +38,11 @@ void free_guarded(uint8_t *memory, size_t len);
 
 /* Reports that a result is wrong, keeps the input in a file, and ends the program. */
 _Noreturn void wrong(const char *format, ...);
-#define NEED(is_right, ...)                                                                                            \
-    do {                                                                                                               \
-        if (!(is_right)) {                                                                                             \
-            wrong(__VA_ARGS__);                                                                                        \
-        }                                                                                                              \
+#define NEED(is_right, ...)     \
+    do {                        \
+        if (!(is_right)) {      \
+            wrong(__VA_ARGS__); \
+        }                       \
     } while (0)
 
 /* The request for memory that the library is refused, counted from the last call of this; none if it is 0. */

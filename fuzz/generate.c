@@ -1,17 +1,74 @@
-/* Makes random type tables, clients and images. The generator of clients follows the rules of the verifier (docs/FORMATS.md), so that
- * most clients are accepted. */
+/* Makes random type tables, clients and images. The generator of clients follows the rules of the verifier
+ * (docs/FORMATS.md), so that most clients are accepted. */
 #include "fuzz.h"
 
 #include <stdio.h>
 #include <string.h>
 
 enum operation {
-    CONST = 1, MOV, ADD, SUB, MUL, LT, EQ, IF, WHILE, ELSE, END, OUTI, OUTS, OUTC, GETB, MAKE, FIND, FINDOR, COUNT, KILL, UMAKE,
-    UFIND, UFINDOR, UKILL, NEW, DROP, REF, PUT, TAKE, CONTENT, CLEAR, FORGET, LOAD, STORE, FIELD, LEN, AT, PUSH, PUSHF, POP, POPF,
-    SETS, ADDS, ADDB, SHRINK, GETK, PUTK, DELK, FIRSTK, NEXTK, FREEZE, SHARE
+    CONST = 1,
+    MOV,
+    ADD,
+    SUB,
+    MUL,
+    LT,
+    EQ,
+    IF,
+    WHILE,
+    ELSE,
+    END,
+    OUTI,
+    OUTS,
+    OUTC,
+    GETB,
+    MAKE,
+    FIND,
+    FINDOR,
+    COUNT,
+    KILL,
+    UMAKE,
+    UFIND,
+    UFINDOR,
+    UKILL,
+    NEW,
+    DROP,
+    REF,
+    PUT,
+    TAKE,
+    CONTENT,
+    CLEAR,
+    FORGET,
+    LOAD,
+    STORE,
+    FIELD,
+    LEN,
+    AT,
+    PUSH,
+    PUSHF,
+    POP,
+    POPF,
+    SETS,
+    ADDS,
+    ADDB,
+    SHRINK,
+    GETK,
+    PUTK,
+    DELK,
+    FIRSTK,
+    NEXTK,
+    FREEZE,
+    SHARE
 };
 
-enum { REGISTERS = 16, NONE = 16, MOST_CODE = 400, MOST_PARTS = 7, TEXTS_COUNT = 4, NAMES_COUNT = 6, FAMILIES_COUNT = 2 };
+enum {
+    REGISTERS = 16,
+    NONE = 16,
+    MOST_CODE = 400,
+    MOST_PARTS = 7,
+    TEXTS_COUNT = 4,
+    NAMES_COUNT = 6,
+    FAMILIES_COUNT = 2
+};
 
 /* ---- types */
 
@@ -139,12 +196,13 @@ static bool is_reference(const generator *g, uint32_t r, int kind)
 
 static bool is_readable(const generator *g, uint32_t r, int kind)
 {
-    return (g->now[r].holds == REFERENCE || g->now[r].holds == READ_ONLY) && (kind == 0 || g->types[g->now[r].type].kind == kind);
+    return (g->now[r].holds == REFERENCE || g->now[r].holds == READ_ONLY) &&
+           (kind == 0 || g->types[g->now[r].type].kind == kind);
 }
 
 static void set(generator *g, uint32_t r, holds what, uint32_t type, uint32_t class)
 {
-    g->now[r] = (state){(uint8_t)what, (uint8_t)type, (uint16_t)class};
+    g->now[r] = (state){(uint8_t)what, (uint8_t)type, (uint16_t) class};
 }
 
 static void end_class(generator *g, uint32_t class, uint32_t but)
@@ -223,7 +281,7 @@ static state as_int(void)
 
 static state reference(uint32_t type, uint32_t class)
 {
-    return (state){REFERENCE, (uint8_t)type, (uint16_t)class};
+    return (state){REFERENCE, (uint8_t)type, (uint16_t) class};
 }
 
 static void generate_loop(generator *g)
@@ -333,17 +391,27 @@ static void generate_unique(generator *g, int operation)
 /* Instructions on a container. Each ends the other references of its class. */
 static void generate_container(generator *g, int operation)
 {
-    static const uint8_t kinds[] = {LEZGAURI_KIND_STR, LEZGAURI_KIND_VEC, LEZGAURI_KIND_LIST, LEZGAURI_KIND_FLAT_MAP, LEZGAURI_KIND_MAP};
+    static const uint8_t kinds[] = {LEZGAURI_KIND_STR, LEZGAURI_KIND_VEC, LEZGAURI_KIND_LIST, LEZGAURI_KIND_FLAT_MAP,
+                                    LEZGAURI_KIND_MAP};
     uint32_t first = 1, last = 2;
-    bool is_changing = operation != AT && operation != GETK && operation != FIRSTK && operation != NEXTK && operation != LEN &&
-                       operation != SETS && operation != ADDS && operation != ADDB && operation != SHRINK;
+    bool is_changing = operation != AT && operation != GETK && operation != FIRSTK && operation != NEXTK &&
+                       operation != LEN && operation != SETS && operation != ADDS && operation != ADDB &&
+                       operation != SHRINK;
     switch (operation) {
     case LEN: first = 0, last = 4; break;
-    case AT: case POP: first = 0; break;
-    case PUSHF: case POPF: first = 2; break;
-    case SETS: case ADDS: case ADDB: first = last = 0; break;
+    case AT:
+    case POP: first = 0; break;
+    case PUSHF:
+    case POPF: first = 2; break;
+    case SETS:
+    case ADDS:
+    case ADDB: first = last = 0; break;
     case SHRINK: first = 0, last = choose(g->from, 2) ? 1 : 0; break;
-    case GETK: case PUTK: case DELK: case FIRSTK: case NEXTK: first = 3, last = 4; break;
+    case GETK:
+    case PUTK:
+    case DELK:
+    case FIRSTK:
+    case NEXTK: first = 3, last = 4; break;
     default: break;
     }
     int kind = kinds[first + choose(g->from, last - first + 1)];
@@ -352,11 +420,11 @@ static void generate_container(generator *g, int operation)
     if (b == NONE) {
         return;
     }
-    bool gives_place = (operation == AT && kind != LEZGAURI_KIND_STR) || operation == PUSH || operation == PUSHF || operation == GETK ||
-                       operation == PUTK;
+    bool gives_place = (operation == AT && kind != LEZGAURI_KIND_STR) || operation == PUSH || operation == PUSHF ||
+                       operation == GETK || operation == PUTK;
     uint32_t a = pick(g, gives_place ? takes_any : takes_int, 0);
-    bool needs_c = operation == AT || operation == ADDB || operation == GETK || operation == PUTK || operation == DELK ||
-                   operation == NEXTK;
+    bool needs_c = operation == AT || operation == ADDB || operation == GETK || operation == PUTK ||
+                   operation == DELK || operation == NEXTK;
     if (a == NONE || (needs_c && c == NONE) || (a == b && g->locks[b] != FREE)) {
         return;
     }
@@ -466,7 +534,11 @@ static void generate_plain(generator *g, int operation)
             g->now[a] = as_int();
         }
         break;
-    case ADD: case SUB: case MUL: case LT: case EQ:
+    case ADD:
+    case SUB:
+    case MUL:
+    case LT:
+    case EQ:
         if (a != NONE && b != NONE && c != NONE) {
             emit(g, operation, a, b, c, 0);
             g->now[a] = as_int();
@@ -477,9 +549,7 @@ static void generate_plain(generator *g, int operation)
             emit(g, OUTI, 0, b, 0, 0);
         }
         break;
-    case OUTC:
-        emit(g, OUTC, 0, 0, 0, (int32_t)choose(g->from, TEXTS_COUNT));
-        break;
+    case OUTC: emit(g, OUTC, 0, 0, 0, (int32_t)choose(g->from, TEXTS_COUNT)); break;
     case OUTS:
         b = pick(g, is_readable, LEZGAURI_KIND_STR);
         if (b != NONE) {
@@ -553,22 +623,31 @@ static void generate_instruction(generator *g)
 {
     static const uint8_t named[] = {MAKE, FIND, FINDOR, FINDOR, FINDOR, COUNT, KILL};
     static const uint8_t unique[] = {UMAKE, UFIND, UFINDOR, UFINDOR, UKILL, NEW, NEW, NEW};
-    static const uint8_t container[] = {LEN, AT, PUSH, PUSH, PUSHF, POP, POPF, SETS, ADDS, ADDB, SHRINK, GETK, PUTK, PUTK, DELK, FIRSTK,
-                                        NEXTK};
-    static const uint8_t owner[] = {DROP, REF, PUT, PUT, PUT, FREEZE, FREEZE, FREEZE, TAKE, CONTENT, CONTENT, SHARE, SHARE};
-    static const uint8_t plain[] = {CONST, CONST, CONST, ADD, SUB, MUL, LT, EQ, OUTI, OUTI, OUTC, OUTS, MOV, CLEAR, FORGET, LOAD, LOAD,
-                                    STORE, STORE, FIELD, FIELD};
+    static const uint8_t container[] = {LEN,  AT,     PUSH, PUSH, PUSHF, POP,  POPF,   SETS, ADDS,
+                                        ADDB, SHRINK, GETK, PUTK, PUTK,  DELK, FIRSTK, NEXTK};
+    static const uint8_t owner[] = {DROP,   REF,  PUT,     PUT,     PUT,   FREEZE, FREEZE,
+                                    FREEZE, TAKE, CONTENT, CONTENT, SHARE, SHARE};
+    static const uint8_t plain[] = {CONST, CONST, CONST, ADD,    SUB,  MUL,  LT,    EQ,    OUTI,  OUTI, OUTC,
+                                    OUTS,  MOV,   CLEAR, FORGET, LOAD, LOAD, STORE, STORE, FIELD, FIELD};
     bool may_open = g->parts < MOST_PARTS;
     switch (choose(g->from, may_open ? 20 : 8)) {
-    case 0: case 1: case 2: case 3: case 4: case 5: case 6: case 7:
-        generate_plain(g, plain[choose(g->from, sizeof plain)]);
-        break;
+    case 0:
+    case 1:
+    case 2:
+    case 3:
+    case 4:
+    case 5:
+    case 6:
+    case 7: generate_plain(g, plain[choose(g->from, sizeof plain)]); break;
     case 8: generate_plain(g, IF); break;
     case 9: generate_plain(g, GETB); break;
     case 10: generate_loop(g); break;
-    case 11: case 12: generate_named(g, named[choose(g->from, sizeof named)]); break;
+    case 11:
+    case 12: generate_named(g, named[choose(g->from, sizeof named)]); break;
     case 13: generate_unique(g, unique[choose(g->from, sizeof unique)]); break;
-    case 14: case 15: case 16: generate_owner(g, owner[choose(g->from, sizeof owner)]); break;
+    case 14:
+    case 15:
+    case 16: generate_owner(g, owner[choose(g->from, sizeof owner)]); break;
     default: generate_container(g, container[choose(g->from, sizeof container)]); break;
     }
 }

@@ -5,7 +5,8 @@
  *   fuzz TARGET FILE..                runs the inputs in files
  *   fuzz --corpus TARGET SEED COUNT FOLDER   writes generated inputs to a folder
  *
- * Input number N of a seed doesn't depend on the others. An input for which a result is wrong is written to the file failed.TARGET.
+ * Input number N of a seed doesn't depend on the others. An input for which a result is wrong is written to the file
+ * failed.TARGET.
  */
 #define _DEFAULT_SOURCE
 #include "fuzz.h"
@@ -177,7 +178,8 @@ int main(int argc, char **argv)
     int count = argc - 1 - writes;
     const target *it = count > 0 ? find_target(words[0]) : NULL;
     if (it == NULL || count < 2 || (writes && count != 4)) {
-        fprintf(stderr, "usage: fuzz TARGET SEED COUNT | fuzz TARGET FILE.. | fuzz --corpus TARGET SEED COUNT FOLDER\n");
+        fprintf(stderr,
+                "usage: fuzz TARGET SEED COUNT | fuzz TARGET FILE.. | fuzz --corpus TARGET SEED COUNT FOLDER\n");
         return 2;
     }
     signal(SIGSEGV, crashed);

@@ -1,7 +1,7 @@
 /*
- * The target `memory`: calls that take memory from malloc, each with every one of its requests refused in turn. A call whose request is
- * refused returns LEZGAURI_MEMORY, leaves the segment, the caller's memory and the output unchanged, and frees what it took; or it
- * doesn't need the memory, and does what it does otherwise.
+ * The target `memory`: calls that take memory from malloc, each with every one of its requests refused in turn. A call
+ * whose request is refused returns LEZGAURI_MEMORY, leaves the segment, the caller's memory and the output unchanged,
+ * and frees what it took; or it doesn't need the memory, and does what it does otherwise.
  */
 #include "fuzz.h"
 
@@ -11,8 +11,24 @@
 enum { SIZE = 1 << 13, MOST_OUTPUT = 1 << 14, MOST_REQUESTS = 10000 };
 
 enum operation {
-    CHECK, VERIFY, RUN, OPEN, OPEN_IN, READ, CREATE, CREATE_IN, ASSEMBLE, PRINT, ADD_TYPES, PREPARE, RUN_ON, RUN_WHOLE, GROW, READER,
-    FIRST_CALL, OPERATIONS
+    CHECK,
+    VERIFY,
+    RUN,
+    OPEN,
+    OPEN_IN,
+    READ,
+    CREATE,
+    CREATE_IN,
+    ASSEMBLE,
+    PRINT,
+    ADD_TYPES,
+    PREPARE,
+    RUN_ON,
+    RUN_WHOLE,
+    GROW,
+    READER,
+    FIRST_CALL,
+    OPERATIONS
 };
 
 /* What calls work on. */
@@ -43,7 +59,8 @@ static uint32_t make(work *of, enum operation operation)
     case CHECK: return lezgauri_check(of->image, SIZE, NULL);
     case VERIFY: return lezgauri_verify(of->image, SIZE, of->client, of->client_len, &bound, NULL);
     case RUN:
-        return lezgauri_run(of->image, SIZE, clients, 2, NULL, 0, of->output, MOST_OUTPUT, &written, of->saved, reports, NULL);
+        return lezgauri_run(of->image, SIZE, clients, 2, NULL, 0, of->output, MOST_OUTPUT, &written, of->saved, reports,
+                            NULL);
     case OPEN: status = lezgauri_open(of->image, SIZE, &made, NULL); break;
     case OPEN_IN: status = lezgauri_open_in(of->lent, SIZE, sizeof of->lent, &made, NULL); break;
     case READ: status = lezgauri_read(of->image, SIZE, &made, NULL); break;
@@ -57,9 +74,11 @@ static uint32_t make(work *of, enum operation operation)
         NEED((status == LEZGAURI_OK) == (prepared != NULL), "a prepared client after %u", status);
         break;
     case RUN_ON:
-        return lezgauri_run_on(of->segment, of->client, of->client_len, NULL, 0, of->output, MOST_OUTPUT, &written, reports, NULL);
+        return lezgauri_run_on(of->segment, of->client, of->client_len, NULL, 0, of->output, MOST_OUTPUT, &written,
+                               reports, NULL);
     case RUN_WHOLE:
-        return lezgauri_run_whole(of->segment, of->client, of->client_len, NULL, 0, of->output, MOST_OUTPUT, &written, reports, NULL);
+        return lezgauri_run_whole(of->segment, of->client, of->client_len, NULL, 0, of->output, MOST_OUTPUT, &written,
+                                  reports, NULL);
     case GROW: return lezgauri_grow(of->segment, 4096, &size);
     case READER:
         status = lezgauri_read(of->image, SIZE, &made, NULL);
@@ -120,10 +139,12 @@ static void refuse_each(work *of, enum operation operation)
         if (status == LEZGAURI_MEMORY) {
             counters[REFUSALS]++;
             NEED(is_reached, "call %d: out of host memory, and no request was refused", operation);
-            NEED(hash_all(of) == before, "call %d: out of host memory at request %u, and something has changed", operation, request);
+            NEED(hash_all(of) == before, "call %d: out of host memory at request %u, and something has changed",
+                 operation, request);
             NEED(live_blocks() == taken, "call %d: request %u refused, and memory is lost", operation, request);
         } else {
-            NEED(status == wanted, "call %d: status %u with request %u refused, and %u otherwise", operation, status, request, wanted);
+            NEED(status == wanted, "call %d: status %u with request %u refused, and %u otherwise", operation, status,
+                 request, wanted);
             NEED(hash_all(of) == after, "call %d: another result with request %u refused", operation, request);
         }
         lezgauri_close(of->segment);

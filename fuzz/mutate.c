@@ -20,8 +20,9 @@ static void put(uint8_t *at, uint32_t number)
 /* A number that tends to be a limit, or close to another one. */
 static uint32_t near(choices *from, uint32_t number)
 {
-    static const uint32_t limits[] = {0, 1, 2, 16, 63, 64, 255, 256, 4096, 65535, 65536, 1u << 26, 1u << 30, 0x7fffffff, 0x80000000,
-                                      0xfffffffe, 0xffffffff};
+    static const uint32_t limits[] = {0,        1,          2,          16,         63,        64,
+                                      255,      256,        4096,       65535,      65536,     1u << 26,
+                                      1u << 30, 0x7fffffff, 0x80000000, 0xfffffffe, 0xffffffff};
     switch (choose(from, 4)) {
     case 0: return limits[choose(from, sizeof limits / sizeof *limits)];
     case 1: return number + choose(from, 33) - 16;
@@ -166,8 +167,15 @@ size_t mutate_image(choices *from, uint8_t *image, size_t len, size_t room)
     case 1: mutate_table(from, image); break;
     case 2: return mutate_length(from, image, len, room);
     case 3: image[choose(from, (uint32_t)len)] ^= (uint8_t)(1u << choose(from, 8)); break;
-    case 4: memmove(image + UNIT * choose(from, (uint32_t)len / UNIT), image + UNIT * choose(from, (uint32_t)len / UNIT), UNIT); break;
-    case 5: case 6: case 7: case 8: case 9: mutate_pointer(from, image, len, blocks, count); break;
+    case 4:
+        memmove(image + UNIT * choose(from, (uint32_t)len / UNIT), image + UNIT * choose(from, (uint32_t)len / UNIT),
+                UNIT);
+        break;
+    case 5:
+    case 6:
+    case 7:
+    case 8:
+    case 9: mutate_pointer(from, image, len, blocks, count); break;
     default: mutate_block(from, image, len, blocks, count);
     }
     return len;
@@ -229,9 +237,35 @@ size_t mutate_client(choices *from, uint8_t *client, size_t len, size_t room)
 
 size_t mutate_text(choices *from, uint8_t *text, size_t len, size_t room)
 {
-    static const char *const words[] = {" ", "\n", "\t", "r0", "r15", "r16", "-", "t0", "t31", "t32", "k0", "k255", "-1", "00", "+1",
-                                        "2147483647", "-2147483648", "2147483648", "\\00", "\\", "type i64\n", "text \n", "name a\n",
-                                        "END\n", "ELSE\n", ";", "WHILE r0 1\n", "\r\n", "FREEZE r0 r1 r2\n"};
+    static const char *const words[] = {" ",
+                                        "\n",
+                                        "\t",
+                                        "r0",
+                                        "r15",
+                                        "r16",
+                                        "-",
+                                        "t0",
+                                        "t31",
+                                        "t32",
+                                        "k0",
+                                        "k255",
+                                        "-1",
+                                        "00",
+                                        "+1",
+                                        "2147483647",
+                                        "-2147483648",
+                                        "2147483648",
+                                        "\\00",
+                                        "\\",
+                                        "type i64\n",
+                                        "text \n",
+                                        "name a\n",
+                                        "END\n",
+                                        "ELSE\n",
+                                        ";",
+                                        "WHILE r0 1\n",
+                                        "\r\n",
+                                        "FREEZE r0 r1 r2\n"};
     if (len < 2 || once_in(from, 6)) {
         return mutate_bytes(from, text, len, room);
     }

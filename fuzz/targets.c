@@ -52,7 +52,8 @@ static void walk_items(walk *of, lezgauri_place place, bool is_list, uint32_t le
         }
         walk_value(of, item, depth + 1);
         if (is_list && i == len - 1) {
-            NEED(lezgauri_next_item(of->segment, place, item, &next) == LEZGAURI_NO_VALUE, "a list doesn't end with its length");
+            NEED(lezgauri_next_item(of->segment, place, item, &next) == LEZGAURI_NO_VALUE,
+                 "a list doesn't end with its length");
         }
     }
 }
@@ -72,7 +73,8 @@ static void walk_keys(walk *of, lezgauri_place place, uint32_t len, uint32_t dep
         need_ok("get", lezgauri_get(of->segment, place, key, &value));
         walk_value(of, value, depth + 1);
         if (i == len - 1) {
-            NEED(lezgauri_next_key(of->segment, place, &key, &last) == LEZGAURI_NO_VALUE, "a map doesn't end with its length");
+            NEED(lezgauri_next_key(of->segment, place, &key, &last) == LEZGAURI_NO_VALUE,
+                 "a map doesn't end with its length");
         }
     }
 }
@@ -104,13 +106,9 @@ static void walk_value(walk *of, lezgauri_place place, uint32_t depth)
         add(of, bytes.bytes, bytes.len);
         break;
     case LEZGAURI_KIND_VEC:
-    case LEZGAURI_KIND_LIST:
-        walk_items(of, place, type->kind == LEZGAURI_KIND_LIST, len, depth);
-        break;
+    case LEZGAURI_KIND_LIST: walk_items(of, place, type->kind == LEZGAURI_KIND_LIST, len, depth); break;
     case LEZGAURI_KIND_FLAT_MAP:
-    case LEZGAURI_KIND_MAP:
-        walk_keys(of, place, len, depth);
-        break;
+    case LEZGAURI_KIND_MAP: walk_keys(of, place, len, depth); break;
     case LEZGAURI_KIND_STRUCT:
         for (uint32_t i = 0; i < type->count; i++) {
             need_ok("field", lezgauri_field(of->segment, place, i, &inner));
@@ -169,7 +167,8 @@ static void need_same(const char *what, const outcome *one, const outcome *two)
 {
     NEED(one->status == two->status, "%s: status %u and %u", what, one->status, two->status);
     NEED(one->written == two->written && one->output == two->output, "%s: another output", what);
-    NEED(one->report.steps == two->report.steps && one->report.read == two->report.read && one->report.ended == two->report.ended,
+    NEED(one->report.steps == two->report.steps && one->report.read == two->report.read &&
+             one->report.ended == two->report.ended,
          "%s: another report", what);
     NEED(one->objects == two->objects, "%s: other objects", what);
 }
@@ -206,15 +205,15 @@ static outcome run_by(int call, lezgauri_handle *segment, const uint8_t *client,
     lezgauri_client *prepared = NULL;
     size_t input_len = sizeof input_of_clients - 1;
     if (call == 0) {
-        of.status = lezgauri_run_on(segment, client, len, input_of_clients, input_len, printed, sizeof printed, &of.written, &of.report,
-                                    NULL);
+        of.status = lezgauri_run_on(segment, client, len, input_of_clients, input_len, printed, sizeof printed,
+                                    &of.written, &of.report, NULL);
     } else if (call == 1) {
-        of.status = lezgauri_run_whole(segment, client, len, input_of_clients, input_len, printed, sizeof printed, &of.written,
-                                       &of.report, NULL);
+        of.status = lezgauri_run_whole(segment, client, len, input_of_clients, input_len, printed, sizeof printed,
+                                       &of.written, &of.report, NULL);
     } else {
         need_ok("prepare", lezgauri_prepare(segment, client, len, &prepared, NULL));
-        of.status = lezgauri_run_client(segment, prepared, input_of_clients, input_len, printed, sizeof printed, &of.written, &of.report,
-                                        NULL);
+        of.status = lezgauri_run_client(segment, prepared, input_of_clients, input_len, printed, sizeof printed,
+                                        &of.written, &of.report, NULL);
         lezgauri_client_close(prepared);
     }
     counters[RUNS]++;
@@ -299,7 +298,8 @@ static void compare_calls(const uint8_t *image, size_t image_len, const uint8_t 
     uint32_t status = lezgauri_run(image, image_len, clients, 1, input_of_clients, sizeof input_of_clients - 1, printed,
                                    sizeof printed, &written, saved, &report, NULL);
     NEED(status == first.status, "lezgauri_run returns %u, and not %u", status, first.status);
-    NEED(written == first.written && hash_bytes(START, printed, written) == first.output, "lezgauri_run has another output");
+    NEED(written == first.written && hash_bytes(START, printed, written) == first.output,
+         "lezgauri_run has another output");
     NEED(hash_bytes(START, saved, image_len) == first.image, "lezgauri_run saves another image");
     free(saved);
 }
@@ -335,11 +335,13 @@ static void run_image(const uint8_t *input, size_t len)
     uint8_t *memory = guarded(len);
     memcpy(memory, input, len);
     uint32_t status = lezgauri_check(memory, len, &one);
-    NEED(lezgauri_check(input, len, &two) == status && one.position == two.position, "check differs at another address");
+    NEED(lezgauri_check(input, len, &two) == status && one.position == two.position,
+         "check differs at another address");
     NEED(lezgauri_open_in(memory, len, len, &segment, &two) == status, "open_in and check differ");
     NEED(lezgauri_read(memory, len, &reader, &three) == status, "read and check differ");
     NEED(lezgauri_open(input, len, &copy, &four) == status, "open and check differ");
-    NEED(two.position == one.position && three.position == one.position && four.position == one.position, "positions differ");
+    NEED(two.position == one.position && three.position == one.position && four.position == one.position,
+         "positions differ");
     if (status == LEZGAURI_OK) {
         counters[SOUND_IMAGES]++;
         uint64_t hash = hash_objects(reader);
@@ -354,7 +356,8 @@ static void run_image(const uint8_t *input, size_t len)
         lezgauri_bytes clients[] = {{client, 0}};
         uint8_t *saved = malloc(len + 1);
         clients[0].len = 0;
-        NEED(lezgauri_run(memory, len, clients, 1, NULL, 0, NULL, 0, NULL, saved, NULL, &two) == status, "run and check differ");
+        NEED(lezgauri_run(memory, len, clients, 1, NULL, 0, NULL, 0, NULL, saved, NULL, &two) == status,
+             "run and check differ");
         free(saved);
     }
     NEED(memcmp(memory, input, len) == 0, "opening and reading wrote to the image");
@@ -391,7 +394,8 @@ static void run_client(const uint8_t *input, size_t len)
     need_ok("save", lezgauri_save(segment, image, sizeof image, NULL));
     uint32_t status = lezgauri_verify(image, sizeof image, client, len, &bound, &fault);
     uint32_t prepare = lezgauri_prepare(segment, client, len, &prepared, &other);
-    NEED(prepare == status && fault.position == other.position && fault.reason == other.reason, "prepare and verify differ");
+    NEED(prepare == status && fault.position == other.position && fault.reason == other.reason,
+         "prepare and verify differ");
     lezgauri_client_close(prepared);
     size_t needed;
     uint32_t print = lezgauri_print(client, len, NULL, 0, &needed, &other);
@@ -404,8 +408,10 @@ static void run_client(const uint8_t *input, size_t len)
     counters[status == LEZGAURI_OK ? ACCEPTED : REFUSED]++;
     if (status != LEZGAURI_OK) {
         uint64_t before = image_hash(segment);
-        NEED(lezgauri_run_on(segment, client, len, NULL, 0, NULL, 0, NULL, NULL, &other) == status, "run_on and verify differ");
-        NEED(fault.position == other.position && image_hash(segment) == before, "a refused client has changed the image");
+        NEED(lezgauri_run_on(segment, client, len, NULL, 0, NULL, 0, NULL, NULL, &other) == status,
+             "run_on and verify differ");
+        NEED(fault.position == other.position && image_hash(segment) == before,
+             "a refused client has changed the image");
     } else if (bound <= MOST_BOUND) {
         compare_calls(image, sizeof image, client, len, bound);
         compare_configs(client, len);
@@ -463,12 +469,9 @@ void run_memory(const uint8_t *input, size_t len);
 size_t memory_input(choices *from, uint8_t *input);
 
 const target targets[] = {
-    {"image", run_image, image_input, mutate_image},
-    {"client", run_client, client_input, mutate_client},
-    {"text", run_text, text_input, mutate_text},
-    {"calls", run_calls, calls_input, mutate_bytes},
-    {"memory", run_memory, memory_input, mutate_client},
-    {NULL, NULL, NULL, NULL},
+    {"image", run_image, image_input, mutate_image},     {"client", run_client, client_input, mutate_client},
+    {"text", run_text, text_input, mutate_text},         {"calls", run_calls, calls_input, mutate_bytes},
+    {"memory", run_memory, memory_input, mutate_client}, {NULL, NULL, NULL, NULL},
 };
 
 const target *find_target(const char *name)
