@@ -614,8 +614,8 @@ void run_calls(const uint8_t *input, size_t len)
         it.count = choose(&from, 8) == 7 ? choose(&from, 256) : 1 + choose(&from, 3);
         it.number = choose(&from, 4) == 3 ? choose(&from, 4096) : choose(&from, 64);
         it.key = choose(&from, 8) == 7 ? INT64_MIN + (int64_t)choose(&from, 2) : (int64_t)choose(&from, 32) - 8;
-        if (it.operation == GROW && (it.number % 16 != 0 || ++grows > MOST_GROWS)) {
-            it.number = 8; /* refused */
+        if (it.operation == GROW) {
+            it.number = ++grows > MOST_GROWS ? 8 : it.number * 16; /* 8 is refused */
         }
         if (it.operation == RUN_ON || it.operation == RUN_WHOLE || it.operation == PREPARE) {
             choose_client(&from);
