@@ -462,9 +462,9 @@ struct Pair {
         auto [all, largest] = ours.free_memory();
         expect(all == ours.first_free, "free memory of Lezgauri at the end and at first", all, ours.first_free);
         expect(largest == all, "free memory in one block", largest, all);
-        size_t before = theirs.segment.get_free_memory();
         theirs.manager()->shrink_to_fit_indexes();
-        expect(theirs.segment.get_free_memory() >= before, "Boost's index");
+        size_t free = theirs.segment.get_free_memory();
+        expect(free == theirs.first_free, "free memory of Boost at the end and at first", free, theirs.first_free);
         size_t size = 0;
         expect(lezgauri_shrink(ours.handle, &size) == LEZGAURI_OK && size == 736, "shrunk size", size, 736);
         ours.need_sound();
