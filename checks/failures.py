@@ -12,7 +12,8 @@ after it. Afterwards:
 - Another one reports status 3 with `file NAME` as its whole message, or `fault 1` if memory was refused, and has
   changed no file. It may have written the new file only if the output failed, or if the last sync of a folder did, as
   docs/FORMATS.md states.
-- After an interruption, or a part, the command succeeds.
+- After an interruption, or a part, the command succeeds. Only an interrupted output may fail: no signal interrupts it,
+  since the program has no handler for one.
 - A killed command leaves the old file or the new one whole, and at most one new file beside it.
 - A command that refuses to write over a file still does so: no failure makes it write there.
 
@@ -30,6 +31,9 @@ from power import CASES, HERE, MEMORY, Case, Check, Wrong, contents
 
 ERRORS = {name: str(getattr(errno, name)) for name in ("ENOSPC", "EIO", "EINTR", "ENOMEM")}
 WAYS = [*ERRORS, "short", "kill", "killed"]
+
+# the calls that a command makes again after an interruption
+INTERRUPTED = ("read", "write", "open", "fsync", "fdatasync")
 
 # commands that write no file; those that print much, and one that reads the input
 READERS = [
@@ -106,19 +110,25 @@ class Failures(Check):
             if not is_new:
                 return "the files are wrong"
             return None if ran.stdout == wanted.stdout else "it printed something else"
-        if way == "short" or way == "EINTR" and name in ("read", "write", "writev", "open", "fsync", "fdatasync"):
+        told, explanation = ran.stderr.decode().split("\n", 1) if ran.stderr else ("", "")
+        if explanation and "--explain" not in case.words:
+            return "a message of several lines"
+        if "--explain" in case.words and ran.returncode == wanted.returncode and wanted.stderr.startswith(told.encode()):
+            return None if is_new else "the files are wrong"
+        is_output = descriptor == "1" and name.startswith("write")
+        if way == "short" or way == "EINTR" and name in INTERRUPTED and not is_output:
             return "it doesn't continue"
-        if way == "ENOMEM" and ran.returncode == 1 and ran.stderr == b"fault 1\n":
-            return None if is_old else "it is out of memory, and a file has changed"
-        told = re.fullmatch(r"file (\S+)(?:\n.*)?\n", ran.stderr.decode(), re.DOTALL)
+        late = call == "fsync -1" and is_new
+        if way == "ENOMEM" and ran.returncode == 1 and told == "fault 1":
+            return None if is_old or late else "it is out of memory, and a file has changed"
+        told = re.fullmatch(r"file (\S+)", told)
         if ran.returncode != 3 or not told or told[1] not in [*case.words, "-"]:
             return "another status or message"
         if told[1] == "-":
             return None if is_old or is_new else "the output failed, and the files are wrong"
         if not wanted.stdout.startswith(ran.stdout):
             return "it printed something else"
-        late = call == "fsync -1"
-        return None if is_old or late and is_new else "it failed, and a file has changed"
+        return None if is_old or late else "it failed, and a file has changed"
 
     def judge_killed(self, case, now, before, after):
         """A killed command leaves the old file or the new one, and at most one file beside it."""

@@ -1,5 +1,5 @@
 #!/usr/bin/env bash
-# Kills runs on one file at random moments: checks/kill.sh [COUNT] [SEED]. COUNT is the number of runs, 1,000 if it
+# Kills runs on one file at random moments, half of them while they write it: checks/kill.sh [COUNT] [SEED]. COUNT is the number of runs, 1,000 if it
 # isn't given; SEED is 1. Each run changes each page of the image. Meanwhile two readers check the file in a loop, and
 # must find it sound each time. After each run the file must be the old image or the new one.
 #
@@ -21,17 +21,17 @@ count = int(sys.argv[1]) if len(sys.argv) > 1 else 1000
 chance = random.Random(int(sys.argv[2]) if len(sys.argv) > 2 else 1)
 memory = "/dev/shm" if os.path.isdir("/dev/shm") else None
 
-# counts the runs in each of 4,000 numbers, which fill eight pages
+# counts the runs in each of 60,000 numbers, which fill 117 pages
 CLIENT = """type i64
 name numbers
 CONST r1 1
-CONST r2 4000
+CONST r2 60000
 CONST r3 0
 MAKE r0 - r2 t0 k0
 ELSE
 END
 CONST r4 1
-WHILE r4 4000
+WHILE r4 60000
   FIND r0 - r3 t0 k0
     LOAD r5 r0
     ADD r5 r5 r1
@@ -51,7 +51,7 @@ class Killed:
         with open("text", "w") as file:
             file.write(CLIENT)
         self.must("asm", "text", "client")
-        self.must("new", "image", "40960", "best", "tree")
+        self.must("new", "image", "524288", "best", "tree")
         self.must("run", "image", "image", "client")
 
     def must(self, *words):
@@ -78,6 +78,13 @@ class Killed:
     def start(self):
         return subprocess.Popen([segtool, "run", "image", "image", "client"], stderr=subprocess.PIPE)
 
+    def wait_for_new_file(self, running):
+        """Until a run has made its new file, or has ended."""
+        taken = set(self.beside())
+        name = next(it for it in (f"image.{number}.new" for number in range(1, 101)) if it not in taken)
+        while running.poll() is None and not os.path.exists(name):
+            pass
+
     def fill_up(self, old):
         """All names of new files are taken: a run fails and changes nothing."""
         for name in self.beside():
@@ -100,7 +107,11 @@ class Killed:
             reader.start()
         for _ in range(count):
             running = self.start()
-            time.sleep(chance.random() * longest)
+            if chance.random() < 0.5:
+                time.sleep(chance.random() * longest)
+            else:
+                self.wait_for_new_file(running)
+                time.sleep(chance.random() ** 2 * 0.0005)
             running.send_signal(signal.SIGKILL)
             _, err = running.communicate()
             now = bytes_of("image")
