@@ -1,7 +1,7 @@
 #!/usr/bin/env python3
 """Measures commands at the limits of images and clients, and prints a table of their times and memory.
 
-    limits.py SEGTOOL [--only WORD] [--rounds N]
+    limits.py SEGTOOL [--part PART] [--rounds N]
 
 The fastest of N runs counts, 1 if it isn't given. Wall and user times are in seconds, and memory is the most that was
 resident, in MiB. Fails if a command has another status than it should. Needs 3 GiB in /dev/shm or in the folder for
@@ -17,6 +17,7 @@ MEMORY = "/dev/shm" if os.path.isdir("/dev/shm") else None
 MOST_SIZE = 1 << 30
 MOST_STEPS = 1_000_000_000
 MOST_CODE = 4096
+PARTS = ("images", "values", "names", "clients")
 
 
 def nodes(kind, push, count):
@@ -78,14 +79,14 @@ END
 
 def longest(steps):
     """A client of 4096 instructions that takes about this many steps."""
-    plain = MOST_CODE - 3
-    turns = steps // (plain + 1)
-    return "CONST r1 1\n" + f"WHILE r1 {turns}\n" + "ADD r2 r2 r1\n" * plain + "END\n"
+    plain = MOST_CODE - 4
+    turns = (steps - 3) // (plain + 1)
+    return "CONST r1 1\nCONST r2 0\n" + f"WHILE r1 {turns}\n" + "ADD r2 r2 r1\n" * plain + "END\n"
 
 
 class Limits:
     def __init__(self, given, folder):
-        self.segtool, self.only, self.rounds = os.path.realpath(given.segtool), given.only, given.rounds
+        self.segtool, self.part, self.rounds = os.path.realpath(given.segtool), given.part, given.rounds
         self.wrong = 0
         os.chdir(folder)
 
@@ -107,8 +108,6 @@ class Limits:
         return wall, used.ru_utime, used.ru_maxrss / 1024, child.returncode, printed.decode().strip()
 
     def row(self, what, *words, status=0):
-        if self.only not in what:
-            return
         wall, user, resident, got, printed = min(self.measure(words) for _ in range(self.rounds))
         last = printed.splitlines()[-1][:40] if printed else ""
         print(f"| {what} | {wall:.2f} | {user:.2f} | {resident:,.0f} | {last} |", flush=True)
@@ -118,12 +117,11 @@ class Limits:
 
     def run(self):
         print("| Command | wall, s | user, s | memory, MiB | last line |\n|---|---|---|---|---|")
-        self.whole_images()
-        self.large_values()
-        self.names()
-        self.clients()
+        for name in PARTS:
+            if self.part in (None, name):
+                getattr(self, name)()
 
-    def whole_images(self):
+    def images(self):
         self.client("empty", "")
         self.row("make an image of 2^30 bytes", "new", "image", str(MOST_SIZE), "best", "tree")
         self.quiet("new", "image", str(MOST_SIZE), "best", "tree", "--force")
@@ -142,7 +140,7 @@ class Limits:
         self.row("list its objects", "list", "saved")
         os.remove("saved")
 
-    def large_values(self):
+    def values(self):
         self.client("types", large_types())
         self.quiet("new", "image", "262144", "best", "tree")
         self.row("verify a client with 32 types, 29 of them of 4096 bytes", "verify", "image", "types")
@@ -174,7 +172,7 @@ class Limits:
 def main():
     parser = argparse.ArgumentParser(description=__doc__.partition("\n\n")[0])
     parser.add_argument("segtool")
-    parser.add_argument("--only", default="", help="only rows with this word")
+    parser.add_argument("--part", choices=PARTS, help="only these rows [default: all]")
     parser.add_argument("--rounds", type=int, default=1)
     given = parser.parse_args()
     with tempfile.TemporaryDirectory(dir=MEMORY) as folder:

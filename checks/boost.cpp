@@ -222,7 +222,7 @@ struct Pair {
     void destroy() {
         bool gone = theirs.destroy(name, type);
         uint32_t status = lezgauri_destroy(ours.handle, name, (uint32_t)type);
-        expect(status == (gone ? LEZGAURI_OK : LEZGAURI_ABSENT), "destroy", status, gone);
+        expect(status == (gone ? +LEZGAURI_OK : +LEZGAURI_ABSENT), "destroy", status, gone);
         refused += !gone;
     }
 
