@@ -63,7 +63,7 @@ check c_examples checks/c_examples.sh
 check python checks/python.sh
 check install checks/install.sh
 check completion checks/completion.sh
-check printed checks/printed.py
+check printed checks/printed.py crates/segtool/out/segtool
 check changing checks/changing.py
 check texts checks/texts.py
 check english checks/english.py
