@@ -486,7 +486,7 @@ struct Pair {
                     allocate();
                     break;
                 case 4:
-                    if (any(10) == 0) grow(16 * (1 + any(100)));
+                    if (any(10) == 0) grow(16 * (16 + any(100)));
                     break;
                 default:
                     change();
@@ -503,7 +503,7 @@ int main(int argc, char** argv) {
     int count = argc > 1 ? std::atoi(argv[1]) : 1000;
     state = argc > 2 ? std::strtoull(argv[2], nullptr, 10) : 1;
     for (int i = 0; i < count; i++) {
-        size_t size = any(2) ? 4096 + 16 * any(256) : ROOM;
+        size_t size = any(2) ? 4096 + 16 * any(256) : +ROOM;
         Pair<Seq>(size, LEZGAURI_SEQ_FIT, LEZGAURI_FLAT_INDEX).run();
         Pair<Best>(size, LEZGAURI_BEST_FIT, LEZGAURI_TREE_INDEX).run();
     }

@@ -144,7 +144,7 @@ void print_counters(void)
         [TEXTS] = "texts of clients",
         [BAD_TEXTS] = "other texts",
         [CALLS] = "calls",
-        [SHORT_CALLS] = "calls out of memory",
+        [COMPARED] = "calls compared between segments", [SHORT_CALLS] = "calls out of memory",
         [REFUSALS] = "refused requests for host memory",
     };
     const char *comma = "";

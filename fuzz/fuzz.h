@@ -86,7 +86,7 @@ extern const target targets[];
 const target *find_target(const char *name);
 
 /* What the targets counted, so that a fuzzer that only meets refusals is noticed. */
-enum { SOUND_IMAGES, FAULTY_IMAGES, ACCEPTED, REFUSED, RUNS, TEXTS, BAD_TEXTS, CALLS, SHORT_CALLS, REFUSALS, COUNTERS };
+enum { SOUND_IMAGES, FAULTY_IMAGES, ACCEPTED, REFUSED, RUNS, TEXTS, BAD_TEXTS, CALLS, COMPARED, SHORT_CALLS, REFUSALS, COUNTERS };
 extern uint64_t counters[COUNTERS];
 void print_counters(void);
 
