@@ -181,7 +181,8 @@ struct Pair {
     int type = 0;
     lezgauri_place place{};
 
-    Pair(size_t size, uint32_t allocator, uint32_t index) : ours(size, allocator, index), theirs(size) {}
+    Pair(size_t size, size_t theirs_size, uint32_t allocator, uint32_t index)
+        : ours(size, allocator, index), theirs(theirs_size) {}
 
     // Each name has one type.
     void take(uint32_t number) {
@@ -272,7 +273,8 @@ struct Pair {
                 bool made = boost_makes(
                     [&] { assigns ? it->assign(added.begin(), added.end()) : it->append(added.begin(), added.end()); });
                 if (status != LEZGAURI_OK) note_out_of_memory(0, 4 * (old.size() + added.size()) + 4096);
-                if (made && status != LEZGAURI_OK) it->assign(old.begin(), old.end());
+                // Boost may have changed a text although it refuses to assign another
+                if (!made || status != LEZGAURI_OK) it->assign(old.begin(), old.end());
                 if (!made && status == LEZGAURI_OK &&
                     lezgauri_assign(ours.handle, place, old.data(), old.size()) != LEZGAURI_OK)
                     expect(false, "an old text has no room");
@@ -503,9 +505,11 @@ int main(int argc, char** argv) {
     int count = argc > 1 ? std::atoi(argv[1]) : 1000;
     state = argc > 2 ? std::strtoull(argv[2], nullptr, 10) : 1;
     for (int i = 0; i < count; i++) {
-        size_t size = any(2) ? 4096 + 16 * any(256) : +ROOM;
-        Pair<Seq>(size, LEZGAURI_SEQ_FIT, LEZGAURI_FLAT_INDEX).run();
-        Pair<Best>(size, LEZGAURI_BEST_FIT, LEZGAURI_TREE_INDEX).run();
+        size_t size = any(3) ? 1024 + 16 * any(256) : +ROOM;
+        // in a larger segment of Boost, it is Lezgauri that is out of memory first
+        size_t theirs_size = any(2) ? size + 2048 : +ROOM;
+        Pair<Seq>(size, theirs_size, LEZGAURI_SEQ_FIT, LEZGAURI_FLAT_INDEX).run();
+        Pair<Best>(size, theirs_size, LEZGAURI_BEST_FIT, LEZGAURI_TREE_INDEX).run();
     }
     std::printf(
         "%d sequences, %llu calls, %llu refused by both; out of memory: Lezgauri %llu, Boost %llu; %llu differences\n",
