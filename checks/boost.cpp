@@ -505,9 +505,9 @@ int main(int argc, char** argv) {
     int count = argc > 1 ? std::atoi(argv[1]) : 1000;
     state = argc > 2 ? std::strtoull(argv[2], nullptr, 10) : 1;
     for (int i = 0; i < count; i++) {
-        size_t size = any(3) ? 1024 + 16 * any(256) : +ROOM;
+        size_t size = any(2) ? 4096 + 16 * any(256) : +ROOM;
         // in a larger segment of Boost, it is Lezgauri that is out of memory first
-        size_t theirs_size = any(2) ? size + 2048 : +ROOM;
+        size_t theirs_size = any(2) ? size : +ROOM;
         Pair<Seq>(size, theirs_size, LEZGAURI_SEQ_FIT, LEZGAURI_FLAT_INDEX).run();
         Pair<Best>(size, theirs_size, LEZGAURI_BEST_FIT, LEZGAURI_TREE_INDEX).run();
     }
