@@ -69,6 +69,8 @@ check texts checks/texts.py
 check english checks/english.py
 check picture bench/picture.py --check
 check boost checks/boost.sh "$([ -n "$quick" ] && echo 100 || echo 10000)"
+check programs checks/programs.py random --count "$([ -n "$quick" ] && echo 100 || echo 10000)"
+check damaged_programs checks/programs.py damaged --count "$([ -n "$quick" ] && echo 1000 || echo 100000)"
 check bases checks/bases.sh "$([ -n "$quick" ] && echo 50 || echo 2000)"
 check fuzz checks/fuzz.sh "$([ -n "$quick" ] && echo 40 || echo 3600)"
 check fuzz_sanitized checks/fuzz.sh --sanitized "$([ -n "$quick" ] && echo 40 || echo 3600)"
