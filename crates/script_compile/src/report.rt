@@ -8,6 +8,9 @@ use std::alloc::{AllocError, Global};
 use std::fmt::Write;
 use std::str;
 
+/// How many bytes of a line are shown at most, before the beginning of an error and after it.
+const MOST_SHOWN: usize = 200;
+
 /// The client of a program.
 #[derive(Drop)]
 pub struct Client {
@@ -101,7 +104,7 @@ fn syntax_lines(
     for error in errors {
         write_syntax_error(&mut lines, file, text, error)?;
     }
-    Ok(lines)
+    printable(alloc, lines.as_str())
 }
 
 fn write_syntax_error(
@@ -130,7 +133,7 @@ fn error_lines(
     for error in wrong.errors.as_slice() {
         write_error(&mut lines, file, text, error, &wrong.types)?;
     }
-    Ok(lines)
+    printable(alloc, lines.as_str())
 }
 
 fn write_error(
@@ -160,7 +163,7 @@ fn warning_lines(
     for warning in warnings {
         write_warning(&mut lines, file, text, warning)?;
     }
-    Ok(lines)
+    printable(alloc, lines.as_str())
 }
 
 fn write_warning(
@@ -185,18 +188,16 @@ fn write_position(lines: &mut String, file: &str, span: Span) -> Result<(), Allo
     write!(lines, "{file}:{line}:{column}: ")
 }
 
-/// Writes the line of a text that a span begins in, and carets under the span's part of it.
+/// Writes the line of a text that a span begins in, and carets under the span's part of it. A long line isn't shown.
 fn write_source(lines: &mut String, text: &[u8], span: Span) -> Result<(), AllocError> {
-    let before = before_span(text, span);
-    let after = after_span(text, span);
-    let line = text.get(span.start.saturating_sub(before.len())..);
-    let len = before.len().saturating_add(after.len());
-    let line = line.unwrap_or_default().get(..len).unwrap_or_default();
-    let (Ok(line), Ok(before)) = (str::from_utf8(line), str::from_utf8(before)) else {
+    let (Some(before), Some(after)) = (before_span(text, span), after_span(text, span)) else {
         return Ok(());
     };
-    write!(lines, "{line}\n")?;
-    write_carets(lines, before, width_of(after, span))
+    let (Ok(first), Ok(rest)) = (str::from_utf8(before), str::from_utf8(after)) else {
+        return Ok(());
+    };
+    write!(lines, "{first}{rest}\n")?;
+    write_carets(lines, first, width_of(after, span))
 }
 
 /// Writes a line with this many carets, under what follows the first part of a line.
@@ -210,21 +211,25 @@ fn write_carets(lines: &mut String, before: &str, count: usize) -> Result<(), Al
     lines.push('\n')
 }
 
-/// The bytes of a span's line before the span.
-fn before_span(text: &[u8], span: Span) -> &[u8] {
-    let before = text.get(..span.start).unwrap_or_default();
+/// The bytes of a span's line before the span, unless they are too many.
+fn before_span(text: &[u8], span: Span) -> Option<&[u8]> {
+    let first = span.start.saturating_sub(MOST_SHOWN);
+    let before = text.get(first..span.start)?;
     match before.iter().rposition(|byte| *byte == b'\n') {
-        Some(at) => before.get(at.saturating_add(1)..).unwrap_or_default(),
-        None => before,
+        Some(at) => before.get(at.saturating_add(1)..),
+        None if first == 0 => Some(before),
+        None => None,
     }
 }
 
-/// The bytes of a span's line from the span on.
-fn after_span(text: &[u8], span: Span) -> &[u8] {
-    let after = text.get(span.start..).unwrap_or_default();
+/// The bytes of a span's line from the span on, unless they are too many.
+fn after_span(text: &[u8], span: Span) -> Option<&[u8]> {
+    let end = span.start.saturating_add(MOST_SHOWN).min(text.len());
+    let after = text.get(span.start..end)?;
     match after.iter().position(|byte| *byte == b'\n') {
-        Some(at) => after.get(..at).unwrap_or_default(),
-        None => after,
+        Some(at) => after.get(..at),
+        None if end == text.len() => Some(after),
+        None => None,
     }
 }
 
@@ -234,5 +239,22 @@ fn width_of(after: &[u8], span: Span) -> usize {
     match str::from_utf8(after.get(..len).unwrap_or_default()) {
         Ok(words) => words.chars().count().max(1),
         Err(_) => 1,
+    }
+}
+
+/// The lines, with a replacement for each control character that a program's text brought into them.
+fn printable(alloc: Global, lines: &str) -> Result<String, AllocError> {
+    let mut shown = String::new(alloc);
+    for character in lines.chars() {
+        shown.push(replaced(character))?;
+    }
+    Ok(shown)
+}
+
+fn replaced(character: char) -> char {
+    if character.is_control() && character != '\n' && character != '\t' {
+        '\u{fffd}'
+    } else {
+        character
     }
 }

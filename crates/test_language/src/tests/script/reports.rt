@@ -26,7 +26,7 @@ fn lines_are_shown(rt: HostRuntime) -> Result<(), Fail> {
 }
 
 /// Programs, and what is reported of them.
-static REPORTS: [(&str, &str); 5] = [
+static REPORTS: [(&str, &str); 6] = [
     ("print 1", ""),
     (
         "let count = 2\nprint cuont\nprint count, other\n",
@@ -39,6 +39,10 @@ static REPORTS: [(&str, &str); 5] = [
     (
         "let x = 1 -- 2",
         "p.lez:1:11: error: `--` means nothing here\nlet x = 1 -- 2\n          ^^\nhint: a comment begins with `#` or `//`; for the negative of a negative number use parentheses\n",
+    ),
+    (
+        "print y # \u{1b}[31m",
+        "p.lez:1:7: error: there is no `y` here\nprint y # \u{fffd}[31m\n      ^\n",
     ),
     (
         "let x = 1",
