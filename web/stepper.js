@@ -1,0 +1,84 @@
+// A run one instruction at a time, forth and back: each place in time is reached by running again from the start.
+import { STOPPED } from "./lezgauri.js";
+import { differences } from "./image.js";
+import { decoded, traceOf } from "./printed.js";
+
+/** How many instructions of a trace are read at once. */
+const WINDOW = 256;
+
+/** How many images are kept. */
+const MOST_IMAGES = 32;
+
+export class Run {
+  #calls;
+  #job;
+  #windows = new Map();
+  #images = new Map();
+  #start;
+
+  /** A run of a client on an image that the module accepts. */
+  constructor(calls, image, client, input) {
+    this.#calls = calls;
+    this.#job = [image, client, input];
+    this.#start = image;
+    /** How many instructions are performed at least, and whether there are no more. */
+    this.known = 0;
+    this.isWhole = false;
+  }
+
+  /** The instruction performed as number `index`, from 0, or null if the run ends before it. */
+  async performed(index) {
+    const number = Math.floor(index / WINDOW);
+    if (!this.#windows.has(number)) {
+      this.#windows.set(number, await this.#read(number * WINDOW));
+    }
+    return this.#windows.get(number)[index % WINDOW] ?? null;
+  }
+
+  async #read(from) {
+    const { status, text } = await this.#calls.make("trace", ...this.#job, from, from + WINDOW);
+    if (status !== 0 && status !== STOPPED) {
+      throw new Error(decoded(text));
+    }
+    const performed = traceOf(decoded(text));
+    this.known = Math.max(this.known, performed.length === 0 ? 0 : from + performed.length);
+    this.isWhole ||= status === 0;
+    return performed;
+  }
+
+  /** Goes to the end, as far as `most` instructions, and returns how many were performed. */
+  async end(most) {
+    for (let from = this.known - (this.known % WINDOW); !this.isWhole && from < most; from += WINDOW * 64) {
+      const { status, text } = await this.#calls.make("trace", ...this.#job, from, from + WINDOW * 64);
+      this.known = Math.max(this.known, from + traceOf(decoded(text)).length);
+      this.isWhole ||= status === 0;
+    }
+    return Math.min(this.known, most);
+  }
+
+  /** The image after so many instructions. */
+  async image(count) {
+    if (count === 0) {
+      return this.#start;
+    }
+    if (!this.#images.has(count)) {
+      const { status, text, file } = await this.#calls.make("imageAfter", ...this.#job, count);
+      if (status !== 0) {
+        throw new Error(decoded(text));
+      }
+      this.#images.set(count, file);
+      if (this.#images.size > MOST_IMAGES) {
+        this.#images.delete(this.#images.keys().next().value);
+      }
+    }
+    return this.#images.get(count);
+  }
+
+  /** What the last of so many instructions changed: ranges of bytes. */
+  async changes(count) {
+    if (count === 0) {
+      return [];
+    }
+    return differences(await this.image(count - 1), await this.image(count));
+  }
+}
