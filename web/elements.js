@@ -29,7 +29,8 @@ export function showText(target, text) {
 export function saveFile(name, bytes) {
   const url = URL.createObjectURL(new Blob([bytes]));
   element("a", { href: url, download: name }).click();
-  URL.revokeObjectURL(url);
+  // after the browser has begun to read it
+  setTimeout(() => URL.revokeObjectURL(url), 1000);
 }
 
 /** A count and its noun. */

@@ -46,7 +46,7 @@ class Page {
   #changed = [];
   #faultMarks = [];
   #look = -1;
-  #pointersOf = new Map();
+  #pointers = { image: null, byName: new Map() };
   #timer = 0;
   #turn = 0;
 
@@ -128,6 +128,7 @@ class Page {
 
   /** Does something, and tells why if it fails. */
   async #attempt(action) {
+    byId("engine").hidden = true;
     try {
       await action();
     } catch (error) {
@@ -188,8 +189,8 @@ class Page {
     this.#name = name;
     this.#image = new ImageBytes(bytes);
     this.#owners = null;
-    this.#pointersOf.clear();
     this.#changed = [];
+    this.#map.select(-1);
     byId("save").disabled = false;
     byId("undo").disabled = this.#earlier.length === 0;
     const { status, text } = await this.#calls.make("check", bytes);
@@ -320,13 +321,14 @@ class Page {
   }
 
   #pointersFrom(image, name, find) {
-    if (this.#pointersOf.get("image") !== image) {
-      this.#pointersOf = new Map([["image", image]]);
+    if (this.#pointers.image !== image) {
+      this.#pointers = { image, byName: new Map() };
     }
-    if (!this.#pointersOf.has(`of ${name}`)) {
-      this.#pointersOf.set(`of ${name}`, find());
+    const { byName } = this.#pointers;
+    if (!byName.has(name)) {
+      byName.set(name, find());
     }
-    return this.#pointersOf.get(`of ${name}`);
+    return byName.get(name);
   }
 
   #openBlock(index) {
@@ -372,7 +374,7 @@ class Page {
   }
 
   #showPlace(at) {
-    byId("go").elements.at.value = at;
+    byId("go").elements.namedItem("at").value = at;
     byId("place").textContent = this.#shownImage.describe(at);
   }
 
@@ -549,7 +551,7 @@ class Page {
     }
     // this also reads the instructions around it
     const next = await run.performed(count);
-    const performed = next === null ? Math.min(count, run.known) : count;
+    const performed = next === null ? await run.end(count) : count;
     const last = performed === 0 ? null : await run.performed(performed - 1);
     const before = performed < 2 ? null : await run.performed(performed - 2);
     const image = await run.image(performed);
@@ -667,7 +669,7 @@ function ranInWords(status, duration) {
   if (status === STOPPED) {
     return `The output became too long, and the run ended there, after ${time}. The image was saved as it was then.`;
   }
-  return status === 0 ? `It ran, with both checks, in ${time}.` : "No client ran.";
+  return status === 0 ? `It ran in ${time}, with the check of the image.` : "No client ran.";
 }
 
 /** A number with separators, other words as they are. */

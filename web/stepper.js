@@ -35,23 +35,25 @@ export class Run {
     return this.#windows.get(number)[index % WINDOW] ?? null;
   }
 
-  async #read(from) {
-    const { status, text } = await this.#calls.make("trace", ...this.#job, from, from + WINDOW);
+  async #read(from, to = from + WINDOW) {
+    const { status, text } = await this.#calls.make("trace", ...this.#job, from, to);
     if (status !== 0 && status !== STOPPED) {
       throw new Error(decoded(text));
     }
     const performed = traceOf(decoded(text));
-    this.known = Math.max(this.known, performed.length === 0 ? 0 : from + performed.length);
-    this.isWhole ||= status === 0;
+    const isEnd = status === 0 && (performed.length > 0 || from === this.known);
+    if (performed.length > 0) {
+      this.known = Math.max(this.known, from + performed.length);
+    }
+    this.isWhole ||= isEnd;
     return performed;
   }
 
-  /** Goes to the end, as far as `most` instructions, and returns how many were performed. */
+  /** How many instructions are performed, at most `most`. */
   async end(most) {
-    for (let from = this.known - (this.known % WINDOW); !this.isWhole && from < most; from += WINDOW * 64) {
-      const { status, text } = await this.#calls.make("trace", ...this.#job, from, from + WINDOW * 64);
-      this.known = Math.max(this.known, from + traceOf(decoded(text)).length);
-      this.isWhole ||= status === 0;
+    while (!this.isWhole && this.known < most) {
+      // twice as many each time, since each time the client runs from the start
+      await this.#read(this.known, Math.min(most, Math.max(this.known + 64 * WINDOW, 2 * this.known)));
     }
     return Math.min(this.known, most);
   }
