@@ -5,6 +5,9 @@ The toolchain's gate, `rt ci`, takes no crate for WebAssembly. So the module's c
 their files, and this lays them out beside the crates that they use, in a folder of their own. A module has no C library and so none
 of its memory: in the copies, the crates that print take the page's memory instead, and are proved again with it."""
 import argparse
+import functools
+import importlib.machinery
+import importlib.util
 import os
 import re
 import shutil
@@ -109,6 +112,21 @@ def lay(folder, proved):
     (folder / ".git").mkdir(exist_ok=True)
 
 
+def accept(folder):
+    """Has `rt lib` take the libraries that were copied. Those that the gate built have no stamp, by which `rt lib` knows them."""
+    kit = Path(shutil.which("rt")).resolve().parent
+    loader = importlib.machinery.SourceFileLoader("rtlib", str(kit / "rtlib.py"))
+    rtlib = importlib.util.module_from_spec(importlib.util.spec_from_loader("rtlib", loader))
+    sys.modules["rtlib"] = rtlib
+    loader.exec_module(rtlib)
+    rtlib.Crate.stamp = functools.cache(rtlib.Crate.stamp)
+    top = rtlib.Crate(str(folder / "crates" / MODULE), str(folder), {})
+    for crate in top.below():
+        stamp = Path(crate.folder) / "out" / "rlib" / "stamp"
+        if crate.name not in (HOST, *PRINTING) and Path(crate.rlib).is_dir() and not stamp.exists():
+            stamp.write_text(crate.stamp(), encoding="utf-8")
+
+
 def publish(module):
     """Copies the module and the examples to where the page reads them."""
     out = ROOT / "web" / "out"
@@ -120,6 +138,7 @@ def publish(module):
 
 def build(folder, proved, jobs):
     lay(folder, proved)
+    accept(folder)
     crate = folder / "crates" / MODULE
     environment = {**os.environ, "RT_ALLOW_C": HOST}
     status = subprocess.run(["rt", "lib", "--jobs", str(jobs)], cwd=crate, env=environment).returncode

@@ -261,7 +261,8 @@ class Page {
   // The heap
 
   #showMap() {
-    this.#map.show(this.#shownImage, this.#changed);
+    const faults = this.#faultMarks.map(({ from, to }) => [from, to]);
+    this.#map.show(this.#shownImage, [...faults, ...this.#changed]);
     this.#showScale();
   }
 
