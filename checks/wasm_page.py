@@ -147,12 +147,15 @@ class Trial:
             self.browser.picture(self.pictures / f"{name}.png")
 
     def load(self, title):
-        self.browser.script("document.querySelector('#bound').textContent = ''")
         self.browser.script(
             "const box = document.querySelector('#example');"
             "box.value = [...box.options].find((it) => it.textContent.startsWith(arguments[0])).value", title)
         self.browser.click("#load-example")
-        self.browser.wait_for_text("#bound", "verif|Line|fault")
+        self.settle()
+
+    def settle(self):
+        """Waits until the page has done what was asked."""
+        self.browser.wait("the end of what was asked", "return document.querySelector('#main').ariaBusy !== 'true'")
 
     def shown(self):
         """The values that the page shows, as lines without indentation."""
@@ -167,10 +170,8 @@ class Trial:
             return JSON.stringify(found) === JSON.stringify(arguments[0])""", wanted, seconds=10)
 
     def run(self):
-        self.browser.script("document.querySelector('#ran').textContent = ''")
         self.browser.click("#run")
-        self.browser.wait_for_text("#ran", "ms")
-        self.browser.wait_for_text("#bound", "accepts|Line")
+        self.settle()
 
     def counter(self):
         self.browser.wait_for_text("#bound", "at most 6 steps")
@@ -182,6 +183,7 @@ class Trial:
         assert self.browser.text("#output") == self.command("run", "counter", "saved", "increment")
         self.expect_values("saved")
         self.browser.click("#undo")
+        self.settle()
         self.expect_values("counter")
 
     def cache(self):
@@ -288,12 +290,12 @@ class Trial:
         self.picture("7-large")
 
     def open(self, name, label):
-        self.browser.script("document.querySelector('#verdict').textContent = ''; document.querySelector('#bound').textContent = ''")
+        self.browser.script("document.querySelector('#verdict').textContent = ''")
         begun = time.monotonic()
         self.browser.type("#file", str(self.folder / name))
         self.browser.wait_for_text("#verdict", f"{name}: the checker accepts")
         checked = time.monotonic() - begun
-        self.browser.wait_for_text("#bound", ".")
+        self.settle()
         shown = time.monotonic() - begun
         self.browser.type("#canvas", KEYS["right"])
         self.browser.wait_for_text("#block", "^Block at")
@@ -332,12 +334,14 @@ def main():
         browser = Browser(port)
         with tempfile.TemporaryDirectory() as folder:
             trial = Trial(browser, segtool, Path(folder), pictures)
-            browser.go(f"http://127.0.0.1:{server.server_port}/")
-            for part in (trial.counter, trial.cache, trial.editor, trial.damaged, trial.dark, trial.large):
-                part()
-                problems = browser.problems()
-                assert not problems, problems
-        browser.ask(browser.session, "DELETE")
+            try:
+                browser.go(f"http://127.0.0.1:{server.server_port}/")
+                for part in (trial.counter, trial.cache, trial.editor, trial.damaged, trial.dark, trial.large):
+                    part()
+                    problems = browser.problems()
+                    assert not problems, problems
+            finally:
+                browser.ask(browser.session, "DELETE")
         print(f"the page shows what segtool prints, in Chromium {browser.version}")
     finally:
         driver.terminate()

@@ -34,8 +34,8 @@ EXAMPLES = ("counter.image", "cache.text", "configure.text", "count.text", "incr
 
 def with_page_memory(text):
     """A source file with the page's memory in the place of the C library's."""
-    text = re.sub(r"use std::alloc::\{AllocError, Global\};", f"use std::alloc::AllocError;\nuse {HOST}::HostHeap;", text)
-    text = re.sub(r"use std::alloc::Global;", f"use {HOST}::HostHeap;", text)
+    text = re.sub(r"use std::alloc::\{AllocError, Global\};", "use std::alloc::AllocError;", text)
+    text = re.sub(r"use std::alloc::Global;\n", "", text)
     lines = []
     for line in text.split("\n"):
         if not line.lstrip().startswith(("//", "ghost ", "use ")):
@@ -43,7 +43,10 @@ def with_page_memory(text):
             line = re.sub(r"\bString\b(?!::|<)", "String<HostHeap>", line)
             line = with_allocator(line)
         lines.append(line)
-    return "\n".join(lines)
+    text = "\n".join(lines)
+    if "HostHeap" not in text:
+        return text
+    return re.sub(r"^use ", f"use {HOST}::HostHeap;\nuse ", text, count=1, flags=re.M)
 
 
 def with_allocator(line):
@@ -107,7 +110,7 @@ def lay(folder, proved):
         lay_module(crates_folder, name)
     listing = (ROOT / "crates" / LISTING).read_text(encoding="utf-8")
     write(crates_folder / MODULE / "src" / "listing.rt", with_page_memory(listing))
-    rows += [f"{HOST}:", f"{MODULE} wasm64: {HOST} {' '.join(USED)}"]
+    rows += [f"{HOST}: libc", f"{MODULE} wasm64: {HOST} {' '.join(USED)}"]
     write(folder / "crates.txt", "".join(f"{row}\n" for row in rows))
     (folder / ".git").mkdir(exist_ok=True)
 

@@ -1,8 +1,8 @@
 // The heap as rows of cells, each of one unit or of several. Drawn as far as it is in view.
 import { HEAP_START, UNIT } from "./image.js";
 
-const CELL_WIDTH = 8;
-const CELL_HEIGHT = 14;
+/** The widths of a cell, in pixels. Only a cell of one unit is wider than the first. */
+const WIDTHS = [8, 12, 16, 24, 32, 48];
 const WORDS = ["object", "buffer", "node", "index", "gap"];
 /** The most pointers of one block that are drawn. */
 const MOST_ARROWS = 500;
@@ -13,6 +13,7 @@ export class HeapMap {
   #spacer;
   #image = null;
   #scale = 1;
+  #width = WIDTHS[0];
   #columns = 1;
   #changed = [];
   #arrows = [];
@@ -53,9 +54,7 @@ export class HeapMap {
     this.#arrows = [];
     if (isOther) {
       this.#selected = -1;
-      this.#columns = this.#columnsInView();
-      const cells = this.#columns * Math.floor(this.#box.clientHeight / CELL_HEIGHT);
-      this.#scale = 2 ** Math.max(0, Math.ceil(Math.log2(this.#units / Math.max(cells, 1))));
+      this.#fit();
       this.#box.scrollTop = 0;
     }
     this.#lay();
@@ -67,13 +66,30 @@ export class HeapMap {
     this.#lay();
   }
 
-  /** Zooms in or out by a factor of two, and keeps the selected block, or what is at the top, in view. */
+  /** Zooms in or out by a step, and keeps the selected block, or what is at the top, in view. */
   zoom(isIn) {
     const unit = this.#selected >= 0 ? this.#unitOf(this.#selected) : this.#firstRow * this.#columns * this.#scale;
     const largest = 2 ** Math.ceil(Math.log2(Math.max(1, this.#units / this.#columns)));
-    this.#scale = Math.min(Math.max(isIn ? this.#scale / 2 : this.#scale * 2, 1), largest);
+    const width = WIDTHS.indexOf(this.#width) + (isIn ? 1 : -1);
+    if (this.#scale === 1 && width >= 0) {
+      this.#width = WIDTHS[Math.min(width, WIDTHS.length - 1)];
+    } else {
+      this.#scale = Math.min(Math.max(isIn ? this.#scale / 2 : this.#scale * 2, 1), largest);
+    }
     this.#lay();
     this.#scrollTo(unit);
+  }
+
+  /** The scale and the width of cells with which all of the heap is in view. */
+  #fit() {
+    this.#scale = 1;
+    this.#width = WIDTHS.findLast((width) => this.#cellsInView(width) >= this.#units) ?? WIDTHS[0];
+    this.#scale = 2 ** Math.max(0, Math.ceil(Math.log2(this.#units / this.#cellsInView(this.#width))));
+  }
+
+  #cellsInView(width) {
+    const { clientWidth, clientHeight } = this.#box;
+    return Math.max(1, Math.floor(clientWidth / width) * Math.floor(clientHeight / heightOf(width)));
   }
 
   select(index) {
@@ -100,11 +116,11 @@ export class HeapMap {
   }
 
   get #firstRow() {
-    return Math.floor(this.#box.scrollTop / CELL_HEIGHT);
+    return Math.floor(this.#box.scrollTop / this.#height);
   }
 
-  #columnsInView() {
-    return Math.max(8, Math.floor(this.#box.clientWidth / CELL_WIDTH));
+  get #height() {
+    return heightOf(this.#width);
   }
 
   #unitOf(index) {
@@ -112,17 +128,17 @@ export class HeapMap {
   }
 
   #lay() {
-    this.#columns = this.#columnsInView();
+    this.#columns = Math.max(1, Math.floor(this.#box.clientWidth / this.#width));
     const height = this.#box.clientHeight;
-    this.#spacer.style.height = `${Math.max(0, this.#rows * CELL_HEIGHT - height)}px`;
+    this.#spacer.style.height = `${Math.max(0, this.#rows * this.#height - height)}px`;
     this.#canvas.style.height = `${height}px`;
     this.#draw();
   }
 
   #scrollTo(unit) {
-    const top = Math.floor(unit / (this.#columns * this.#scale)) * CELL_HEIGHT;
+    const top = Math.floor(unit / (this.#columns * this.#scale)) * this.#height;
     const height = this.#box.clientHeight;
-    if (top < this.#box.scrollTop || top + CELL_HEIGHT > this.#box.scrollTop + height) {
+    if (top < this.#box.scrollTop || top + this.#height > this.#box.scrollTop + height) {
       this.#box.scrollTop = Math.max(0, top - height / 3);
     }
   }
@@ -131,8 +147,8 @@ export class HeapMap {
     if (this.#image === null) {
       return -1;
     }
-    const column = Math.floor(offsetX / CELL_WIDTH);
-    const row = Math.floor((offsetY + this.#box.scrollTop) / CELL_HEIGHT);
+    const column = Math.floor(offsetX / this.#width);
+    const row = Math.floor((offsetY + this.#box.scrollTop) / this.#height);
     return column >= this.#columns ? -1 : this.#blockOfCell(row * this.#columns + column);
   }
 
@@ -204,7 +220,7 @@ export class HeapMap {
     const top = this.#box.scrollTop;
     const cells = Math.ceil(this.#units / this.#scale);
     const first = this.#firstRow * this.#columns;
-    const last = Math.min(cells, first + Math.ceil(height / CELL_HEIGHT + 1) * this.#columns);
+    const last = Math.min(cells, first + Math.ceil(height / this.#height + 1) * this.#columns);
     let run = { block: -2, cell: first };
     for (let cell = first; cell <= last; cell++) {
       const block = cell < last ? this.#blockOfCell(cell) : -2;
@@ -232,10 +248,10 @@ export class HeapMap {
     const ends = this.#scale > 1 || next >= blocks.starts[block] + blocks.units(block) * UNIT;
     context.fillStyle = colours.of(blocks.word(block));
     context.fillRect(
-      (from % this.#columns) * CELL_WIDTH,
-      row * CELL_HEIGHT - top,
-      (to - from) * CELL_WIDTH - (ends ? 1 : 0),
-      CELL_HEIGHT - 2,
+      (from % this.#columns) * this.#width,
+      row * this.#height - top,
+      (to - from) * this.#width - (ends ? 1 : 0),
+      this.#height - 2,
     );
   }
 
@@ -251,17 +267,17 @@ export class HeapMap {
   #frameCells(context, from, to, top, colour, width = 2) {
     const first = Math.max(this.#cellOf(from), this.#firstRow * this.#columns);
     const last = this.#cellOf(to - 1);
-    const rowsInView = this.#box.clientHeight / CELL_HEIGHT + 1;
+    const rowsInView = this.#box.clientHeight / this.#height + 1;
     context.strokeStyle = colour;
     context.lineWidth = width;
     for (let cell = first, rows = 0; cell >= 0 && cell <= last && rows <= rowsInView; rows++) {
       const row = Math.floor(cell / this.#columns);
       const end = Math.min(last + 1, (row + 1) * this.#columns);
       context.strokeRect(
-        (cell % this.#columns) * CELL_WIDTH,
-        row * CELL_HEIGHT - top - 0.5,
-        (end - cell) * CELL_WIDTH - 1,
-        CELL_HEIGHT - 1,
+        (cell % this.#columns) * this.#width,
+        row * this.#height - top - 0.5,
+        (end - cell) * this.#width - 1,
+        this.#height - 1,
       );
       cell = end;
     }
@@ -288,10 +304,15 @@ export class HeapMap {
     }
     const cell = this.#cellOf(position);
     return {
-      x: ((cell % this.#columns) + 0.5) * CELL_WIDTH,
-      y: (Math.floor(cell / this.#columns) + 0.5) * CELL_HEIGHT - top - 1,
+      x: ((cell % this.#columns) + 0.5) * this.#width,
+      y: (Math.floor(cell / this.#columns) + 0.5) * this.#height - top - 1,
     };
   }
+}
+
+/** The height of a cell with a width. */
+function heightOf(width) {
+  return Math.round(width * 1.5) + 2;
 }
 
 /** The page's colours, which depend on light and dark. */

@@ -48,6 +48,8 @@ class Page {
   #look = -1;
   #pointers = { image: null, byName: new Map() };
   #timer = 0;
+  #pending = 0;
+  #last = Promise.resolve();
   #turn = 0;
 
   #values = new ValueTree(byId("values"), (name) => this.#showWhole(name));
@@ -91,7 +93,6 @@ class Page {
       "save-client": () => saveFile("out.client", this.#client),
       run: () => this.#runClient(),
       step: () => this.#stepThrough(),
-      stop: () => this.#calls.stop(),
       first: () => this.#goTo(0),
       back: () => this.#goTo(this.#performed - 1),
       forth: () => this.#goTo(this.#performed + 1),
@@ -101,6 +102,7 @@ class Page {
     for (const [id, action] of Object.entries(actions)) {
       byId(id).addEventListener("click", () => this.#attempt(action));
     }
+    byId("stop").addEventListener("click", () => this.#calls.stop());
     onSubmit("new", (fields) => this.#attempt(() => this.#make(fields)));
     onSubmit("go", (fields) => this.#goToByte(Number(fields.at)));
     onFile("file", (file) => this.#attempt(() => this.#openFile(file)));
@@ -126,8 +128,14 @@ class Page {
     });
   }
 
-  /** Does something, and tells why if it fails. */
-  async #attempt(action) {
+  /** Does something after what was begun before, and tells why if it fails. */
+  #attempt(action) {
+    this.#pending += 1;
+    byId("main").ariaBusy = "true";
+    this.#last = this.#last.then(() => this.#attemptNow(action));
+  }
+
+  async #attemptNow(action) {
     byId("engine").hidden = true;
     try {
       await action();
@@ -137,6 +145,8 @@ class Page {
         byId("engine").textContent = `That didn't work: ${error.message}`;
       }
     }
+    this.#pending -= 1;
+    byId("main").ariaBusy = String(this.#pending > 0);
   }
 
   // Images
@@ -455,13 +465,13 @@ class Page {
   #showFlaw(text, refusal) {
     const { number, operands: [operand], explanation } = refusal;
     const line = flawLine(text, number, operand);
-    const words = explanation.filter((it) => !/^line \d+|^instruction \d+/.test(it));
+    const words = flawInWords(explanation);
     this.#editor.clearMarks();
     if (line !== null) {
-      this.#editor.showFlaw(line, words[0] ?? refusal.line);
+      this.#editor.showFlaw(line, words);
     }
     const place = line === null ? "" : `Line ${line}: `;
-    this.#showRejection(`${place}${refusal.line}. ${words[0] ?? ""}`, explanation);
+    this.#showRejection(`${place}${refusal.line}. ${words}`, explanation);
     byId("bound").classList.add("bad");
   }
 
@@ -651,6 +661,17 @@ function flawLine(text, number, operand) {
     return instructionLinesOf(text)[operand]?.line ?? null;
   }
   return number === mismatch ? (itemsOf(text)[operand]?.line ?? null) : null;
+}
+
+/** The part of an explanation that fits on a line: what a register should contain and what it does, or the first rule. */
+function flawInWords(explanation) {
+  const lines = explanation.filter((it) => !/^(line|instruction) \d+/.test(it));
+  const wanted = lines.find((it) => /^r\d+ should /.test(it));
+  if (wanted === undefined) {
+    return lines[0] ?? "";
+  }
+  const [register] = wanted.split(" ", 1);
+  return `${lines.find((it) => it.startsWith(`${register} `))}; ${wanted}`;
 }
 
 function blockInWords(image, index, owner) {
