@@ -45,17 +45,17 @@ function command(...words) {
 /** Compares an answer with what segtool prints and writes. */
 function same(answer, words, label) {
   const { status, out, err, file } = command(...words, "--explain");
-  const told = `${label}: segtool ${words.join(" ")}`;
+  const place = `${label}: segtool ${words.join(" ")}`;
   const isDone = answer.status === 0;
-  assert.equal(status, isDone ? 0 : 1, told);
+  assert.equal(status, isDone ? 0 : 1, place);
   if (answer.status !== ABSENT) {
-    assert.equal(decoded(answer.text), decoded(isDone ? out : err), told);
+    assert.equal(decoded(answer.text), decoded(isDone ? out : err), place);
   }
   if (!isDone && answer.status !== ABSENT) {
-    assert.equal(refusalOf(decoded(answer.text)).number, answer.status, told);
+    assert.equal(refusalOf(decoded(answer.text)).number, answer.status, place);
   }
   if (file !== null || answer.file !== null) {
-    assert.deepEqual(answer.file, file, told);
+    assert.deepEqual(answer.file, file, place);
   }
   compared += 1;
 }
@@ -64,7 +64,7 @@ function put(name, bytes) {
   writeFileSync(`${work}/${name}`, bytes);
 }
 
-/** Compares all that is told of an image. Returns whether it is sound. */
+/** Compares all answers on an image. Returns whether it is sound. */
 function compareImage(bytes, label) {
   put("image", bytes);
   const checked = module.check(bytes);
@@ -102,7 +102,7 @@ function comparePictures(bytes, label) {
   assert.equal(countOf(valuesOf(decoded(shown))), linesOf(decoded(shown)).length, label);
 }
 
-/** Each pointer of an object leads to a block of the object, and each of its blocks but the first is pointed to. */
+/** Each pointer of an object points to a block of the object, and each of its blocks but the first is pointed to. */
 function comparePointers(image, { names, owners }, label) {
   const pointed = new Set();
   for (const name of names) {
@@ -123,7 +123,7 @@ function countOf(values) {
   return values.reduce((count, { parts }) => count + 1 + countOf(parts), 0);
 }
 
-/** Compares all that is told of a text and of its client on an image. */
+/** Compares all answers on a text, and on its client on an image. */
 function compareText(text, image, input, label) {
   put("text", text);
   put("image", image);

@@ -2,7 +2,7 @@
 import { element } from "./elements.js";
 
 const ROW = 16;
-const ROWS = 16;
+const ROWS = 32;
 
 export class ByteView {
   #target;

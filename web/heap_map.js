@@ -192,7 +192,7 @@ export class HeapMap {
     }
   }
 
-  /** The block so many rows below the start of the selected one. */
+  /** The block `rows` rows below the start of the selected one. */
   #blockInRow(rows) {
     const unit = this.#selected < 0 ? 0 : this.#unitOf(this.#selected) + rows * this.#columns * this.#scale;
     const found = this.#image.blocks.around(HEAP_START + Math.max(unit, 0) * UNIT);

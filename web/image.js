@@ -175,7 +175,7 @@ export class ImageBytes {
     return payload === null ? null : { at: payload + 8, type: this.bytes[payload - 7], count: 1 };
   }
 
-  /** The pointers in an object and in all that it owns, as pairs of positions; at most so many. */
+  /** The pointers in an object and in all that it owns, as pairs of positions; at most `most`. */
   pointersOf({ at, type, count }, most = 200_000) {
     const pointers = [];
     const seen = new Set();
@@ -356,7 +356,7 @@ class Blocks {
   }
 }
 
-/** The parts of two images of equal length that differ, as pairs of positions, from and to; at most so many. */
+/** The parts of two images of equal length that differ, as pairs of positions, from and to; at most `most`. */
 export function differences(before, after, most = 1000) {
   const found = [];
   const length = Math.min(before.length, after.length);

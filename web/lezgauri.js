@@ -192,7 +192,7 @@ export class Lezgauri {
     return this.#call("lezgauri_trace", image, client, input, BigInt(from), BigInt(to));
   }
 
-  /** The image after a run has performed so many instructions. */
+  /** The image after a run has performed `count` instructions. */
   imageAfter(image, client, input, count) {
     return this.#call("lezgauri_image_after", image, client, input, BigInt(count));
   }

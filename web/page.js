@@ -554,7 +554,7 @@ class Page {
     }
   }
 
-  /** Shows the run after so many instructions. */
+  /** Shows the run after `count` instructions. */
   async #goTo(count) {
     const run = this.#run;
     if (run === null || !(count >= 0)) {

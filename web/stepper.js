@@ -58,7 +58,7 @@ export class Run {
     return Math.min(this.known, most);
   }
 
-  /** The image after so many instructions. */
+  /** The image after `count` instructions. */
   async image(count) {
     if (count === 0) {
       return this.#start;
@@ -76,7 +76,7 @@ export class Run {
     return this.#images.get(count);
   }
 
-  /** What the last of so many instructions changed: ranges of bytes. */
+  /** The ranges of bytes that instruction number `count`, counted from 1, changed. */
   async changes(count) {
     if (count === 0) {
       return [];
