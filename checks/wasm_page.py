@@ -56,6 +56,15 @@ END
 """
 
 
+# A client that runs for seconds.
+LONG = """CONST r1 1
+CONST r2 0
+WHILE r1 300000000
+  ADD r2 r2 r1
+END
+"""
+
+
 class Handler(http.server.SimpleHTTPRequestHandler):
     extensions_map = {**http.server.SimpleHTTPRequestHandler.extensions_map, ".js": "text/javascript", ".wasm": "application/wasm"}
 
@@ -255,6 +264,20 @@ class Trial:
         self.set_text(HELLO.replace("STORE r0 r2", "STORE r0"))
         self.browser.wait_for_text("#bound", "^Line 7: fault 21 7")
 
+    def stop(self):
+        """A run that is stopped leaves the image as it was, and the next one runs."""
+        self.load("A number")
+        self.set_text(LONG)
+        self.browser.wait_for_text("#bound", "at most 600,000,003 steps")
+        self.browser.click("#run")
+        self.browser.wait_for_text("#ran", "It runs")
+        self.browser.click("#stop")
+        self.browser.wait_for_text("#ran", "stopped")
+        self.settle()
+        self.load("A number")
+        self.run()
+        assert self.browser.text("#output") == "42\n"
+
     def set_text(self, text):
         self.browser.script(
             "const text = document.querySelector('#text'); text.value = arguments[0];"
@@ -336,7 +359,7 @@ def main():
             trial = Trial(browser, segtool, Path(folder), pictures)
             try:
                 browser.go(f"http://127.0.0.1:{server.server_port}/")
-                for part in (trial.counter, trial.cache, trial.editor, trial.damaged, trial.dark, trial.large):
+                for part in (trial.counter, trial.cache, trial.editor, trial.stop, trial.damaged, trial.dark, trial.large):
                     part()
                     problems = browser.problems()
                     assert not problems, problems
