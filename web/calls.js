@@ -4,16 +4,13 @@
 export class Stopped extends Error {}
 
 export class Calls {
-  #worker;
+  #worker = null;
   #waiting = new Map();
   #number = 0;
 
-  constructor() {
-    this.#start();
-  }
-
   /** Makes a call of the module, and returns its answer. */
   make(call, ...values) {
+    this.#worker ??= this.#started();
     const number = this.#number++;
     return new Promise((resolve, reject) => {
       this.#waiting.set(number, { resolve, reject });
@@ -23,28 +20,33 @@ export class Calls {
 
   /** Ends the calls that are being made. */
   stop() {
-    this.#worker.terminate();
     this.#fail(new Stopped("stopped"));
-    this.#start();
+    // so that the next call need not wait for it
+    this.#worker = this.#started();
   }
 
-  #start() {
-    this.#worker = new Worker(new URL("worker.js", import.meta.url), { type: "module" });
-    this.#worker.addEventListener("message", ({ data }) => this.#settle(data));
-    this.#worker.addEventListener("error", (event) => this.#fail(new Error(event.message ?? "the worker doesn't start")));
+  #started() {
+    const worker = new Worker(new URL("worker.js", import.meta.url), { type: "module" });
+    worker.addEventListener("message", ({ data }) => this.#settle(data));
+    worker.addEventListener("error", ({ message }) => this.#fail(new Error(message ?? "the worker doesn't start")));
+    return worker;
   }
 
   #settle({ number, answer, error }) {
-    const { resolve, reject } = this.#waiting.get(number);
+    // none if the worker was ended after it answered
+    const waiting = this.#waiting.get(number);
     this.#waiting.delete(number);
     if (error === undefined) {
-      resolve(answer);
+      waiting?.resolve(answer);
     } else {
-      reject(new Error(error));
+      waiting?.reject(new Error(error));
     }
   }
 
+  /** Ends the worker, and fails the calls that it was given. The next call starts another one. */
   #fail(error) {
+    this.#worker?.terminate();
+    this.#worker = null;
     for (const { reject } of this.#waiting.values()) {
       reject(error);
     }

@@ -131,7 +131,8 @@ export class ImageBytes {
 
   #flatNames() {
     const buffer = this.target(32);
-    const count = Math.min(this.word(36), this.length / 8);
+    const room = buffer === null ? 0 : (this.word(buffer - UNIT) & 0x7fffffff) * 2 - 2;
+    const count = Math.min(this.word(36), Math.max(room, 0), this.length / 8);
     return buffer === null ? [] : Array.from({ length: count }, (_, index) => this.#entry(buffer + 8 * index));
   }
 

@@ -21,6 +21,12 @@ import {
 import { Run } from "./stepper.js";
 import { ValueTree } from "./value_tree.js";
 
+/** The most characters of an output that are shown: more would make the page slow. */
+const MOST_OUTPUT = 1_000_000;
+
+/** The most bytes of images that are kept for "undo". */
+const MOST_EARLIER_BYTES = 256 * 1024 * 1024;
+
 /** How long after a key the text is assembled, in milliseconds. */
 const PAUSE = 150;
 
@@ -29,6 +35,8 @@ const LISTED = 6;
 
 /** The most instructions to which "to the end" goes. */
 const MOST_PERFORMED = 1_000_000;
+
+const NO_OWNERS = { names: [], owners: [] };
 
 const encoder = new TextEncoder();
 
@@ -107,22 +115,26 @@ class Page {
     onSubmit("go", (fields) => this.#goToByte(Number(fields.at)));
     onFile("file", (file) => this.#attempt(() => this.#openFile(file)));
     onFile("client-file", (file) => this.#attempt(() => this.#openClient(file)));
-    byId("performed").addEventListener("change", ({ target }) => this.#attempt(() => this.#goTo(Number(target.value))));
+    byId("performed").addEventListener("change", ({ target }) => this.#attempt(() => this.#goTo(Math.trunc(Number(target.value)))));
     this.#listenToDrops();
   }
 
   #listenToDrops() {
     const target = byId("drop");
+    // words that are dragged are for the editor
+    const hasFile = ({ dataTransfer }) => dataTransfer.types.includes("Files");
     addEventListener("dragover", (event) => {
-      event.preventDefault();
-      target.classList.add("over");
+      if (hasFile(event)) {
+        event.preventDefault();
+        target.classList.add("over");
+      }
     });
     addEventListener("dragleave", () => target.classList.remove("over"));
     addEventListener("drop", (event) => {
-      event.preventDefault();
       target.classList.remove("over");
-      const [file] = event.dataTransfer.files;
-      if (file !== undefined) {
+      if (hasFile(event)) {
+        event.preventDefault();
+        const [file] = event.dataTransfer.files;
         this.#attempt(() => this.#openFile(file));
       }
     });
@@ -198,6 +210,8 @@ class Page {
     this.#leaveSteps();
     this.#name = name;
     this.#image = new ImageBytes(bytes);
+    this.#isSound = false;
+    this.#setClient(null);
     this.#owners = null;
     this.#changed = [];
     this.#map.select(-1);
@@ -311,8 +325,14 @@ class Page {
   }
 
   async #readOwners(image) {
-    const { status, text } = await this.#calls.make("map", image.bytes);
-    return status === 0 ? ownersOf(text) : { names: [], owners: [] };
+    try {
+      const { status, text } = await this.#calls.make("map", image.bytes);
+      return status === 0 ? ownersOf(text) : NO_OWNERS;
+    } catch {
+      // the map then tells no owners until the next look
+      this.#owners = null;
+      return NO_OWNERS;
+    }
   }
 
   /** The pointers that begin or end in a block. */
@@ -412,6 +432,7 @@ class Page {
 
   #edited() {
     this.#leaveSteps();
+    this.#setClient(null);
     clearTimeout(this.#timer);
     this.#timer = setTimeout(() => this.#attempt(() => this.#assembleText()), PAUSE);
   }
@@ -496,7 +517,7 @@ class Page {
       const duration = performance.now() - begun;
       this.#showOutput(ranInWords(status, duration), decoded(text));
       if (file !== null) {
-        this.#earlier.push({ name: this.#name, bytes: before });
+        this.#keep({ name: this.#name, bytes: before });
         await this.#show(this.#name, file);
       }
     } catch (error) {
@@ -508,8 +529,18 @@ class Page {
   }
 
   #showOutput(words, output) {
-    byId("ran").textContent = words;
-    byId("output").textContent = output;
+    const isCut = output.length > MOST_OUTPUT;
+    byId("ran").textContent = isCut ? `${words} The first ${counted(MOST_OUTPUT, "character")} of its output are shown.` : words;
+    byId("output").textContent = isCut ? output.slice(0, MOST_OUTPUT) : output;
+  }
+
+  /** Keeps an image for "undo", at least the last one. */
+  #keep(earlier) {
+    this.#earlier.push(earlier);
+    let kept = this.#earlier.reduce((sum, { bytes }) => sum + bytes.length, 0);
+    while (this.#earlier.length > 1 && kept > MOST_EARLIER_BYTES) {
+      kept -= this.#earlier.shift().bytes.length;
+    }
   }
 
   async #undo() {

@@ -6,8 +6,8 @@ import { decoded, traceOf } from "./printed.js";
 /** How many instructions of a trace are read at once. */
 const WINDOW = 256;
 
-/** How many images are kept. */
-const MOST_IMAGES = 32;
+/** How many bytes of images are kept, besides those of the last two. */
+const MOST_IMAGE_BYTES = 128 * 1024 * 1024;
 
 export class Run {
   #calls;
@@ -69,7 +69,8 @@ export class Run {
         throw new Error(decoded(text));
       }
       this.#images.set(count, file);
-      if (this.#images.size > MOST_IMAGES) {
+      // their lengths are equal
+      if (this.#images.size > 2 && this.#images.size * file.length > MOST_IMAGE_BYTES) {
         this.#images.delete(this.#images.keys().next().value);
       }
     }
