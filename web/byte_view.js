@@ -3,6 +3,8 @@ import { element } from "./elements.js";
 
 const ROW = 16;
 const ROWS = 32;
+/** The rows above a byte that is gone to. */
+const ROWS_ABOVE = 4;
 
 export class ByteView {
   #target;
@@ -14,8 +16,8 @@ export class ByteView {
     this.#target = target;
   }
 
-  /** Shows an image. `marks` are ranges of bytes: from, to, and a class. */
-  show(image, marks, at = this.#first) {
+  /** Shows an image at a byte, or where the view is. `marks` are ranges of bytes: from, to, and a class. */
+  show(image, marks, at = this.#first + ROWS_ABOVE * ROW) {
     this.#image = image;
     this.#marks = marks;
     this.goTo(at);
@@ -33,14 +35,14 @@ export class ByteView {
   /** Shows a byte, in the upper part of the view. */
   goTo(at) {
     const last = Math.max(0, Math.ceil((this.#image?.length ?? 0) / ROW) - ROWS);
-    const row = Math.min(Math.max(Math.floor(at / ROW) - 4, 0), last);
+    const row = Math.min(Math.max(Math.floor(at / ROW) - ROWS_ABOVE, 0), last);
     this.#first = row * ROW;
     this.#draw();
   }
 
   /** Goes on or back by what is shown. */
   turn(pages) {
-    this.goTo(this.#first + 4 * ROW + pages * ROW * ROWS);
+    this.goTo(this.#first + (ROWS_ABOVE + pages * ROWS) * ROW);
   }
 
   #draw() {

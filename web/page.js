@@ -169,16 +169,14 @@ class Page {
     if (start === "SEGC" || file.name.endsWith(".text")) {
       await this.#openClient(file);
     } else {
-      this.#earlier = [];
-      await this.#show(file.name, bytes);
+      await this.#showOther(file.name, bytes);
     }
   }
 
   async #make({ size, allocator, index }) {
     const { status, text, file } = await this.#calls.make("create", Number(size), Number(allocator), Number(index));
     if (status === 0) {
-      this.#earlier = [];
-      await this.#show("new.image", file);
+      await this.#showOther("new.image", file);
     } else {
       this.#showVerdict(refusalOf(decoded(text)));
     }
@@ -200,9 +198,15 @@ class Page {
     }
     this.#editor.value = decoded(await fetched(client));
     byId("input").value = input;
-    this.#showOutput("", "");
+    await this.#showOther("example.image", bytes);
+  }
+
+  /** Shows an image that has nothing to do with the one before. */
+  async #showOther(name, bytes) {
     this.#earlier = [];
-    await this.#show("example.image", bytes);
+    this.#showOutput("", "");
+    byId("go").elements.namedItem("at").value = 0;
+    await this.#show(name, bytes);
   }
 
   /** Checks an image and shows it. */
@@ -374,7 +378,7 @@ class Page {
   #showBytes(refusal) {
     this.#faultMarks = [];
     if (refusal === null) {
-      this.#bytes.show(this.#image, []);
+      this.#goToByte(Number(byId("go").elements.namedItem("at").value));
       return;
     }
     const at = faultPosition(refusal);
