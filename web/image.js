@@ -176,7 +176,7 @@ export class ImageBytes {
     return payload === null ? null : { at: payload + 8, type: this.bytes[payload - 7], count: 1 };
   }
 
-  /** The pointers in an object and in all that it owns, as pairs of positions; at most `most`. */
+  /** The pointers in an object and in all that it owns, as pairs of positions; about `most` at most. */
   pointersOf({ at, type, count }, most = 200_000) {
     const pointers = [];
     const seen = new Set();
@@ -186,7 +186,7 @@ export class ImageBytes {
       values.push([at + index * size, type]);
     }
     while (values.length > 0 && pointers.length < most) {
-      this.#follow(...values.pop(), { pointers, values, seen });
+      this.#follow(...values.pop(), { pointers, values, seen, most });
     }
     return pointers;
   }
@@ -223,9 +223,9 @@ export class ImageBytes {
     // the object of a shared is shown as an object of its own
   }
 
-  #followNodes(first, word, component, { pointers, values, seen }) {
+  #followNodes(first, word, component, { pointers, values, seen, most }) {
     const nodes = [first];
-    while (nodes.length > 0) {
+    while (nodes.length > 0 && pointers.length < most) {
       const node = nodes.pop();
       if (seen.has(node)) {
         continue;

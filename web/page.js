@@ -347,12 +347,9 @@ class Page {
     if (image.blocks.kind(index) === BlockKind.FREE) {
       return image.freePointers(from);
     }
-    const pointers = [...this.#pointersFrom(image, "", () => image.indexPointers())];
-    if (owner !== null) {
-      const object = image.object(owner);
-      pointers.push(...this.#pointersFrom(image, owner, () => (object === null ? [] : image.pointersOf(object))));
-    }
-    return pointers.filter(([start, end]) => touches(start) || touches(end));
+    const ofIndex = this.#pointersFrom(image, "", () => image.indexPointers());
+    const ofOwner = owner === null ? [] : this.#pointersFrom(image, owner, () => pointersOfObject(image, owner));
+    return ofIndex.concat(ofOwner).filter(([start, end]) => touches(start) || touches(end));
   }
 
   #pointersFrom(image, name, find) {
@@ -707,6 +704,11 @@ function flawInWords(explanation) {
   }
   const [register] = wanted.split(" ", 1);
   return `${lines.find((it) => it.startsWith(`${register} `))}; ${wanted}`;
+}
+
+function pointersOfObject(image, name) {
+  const object = image.object(name);
+  return object === null ? [] : image.pointersOf(object);
 }
 
 function blockInWords(image, index, owner) {
