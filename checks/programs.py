@@ -31,6 +31,7 @@ COMBINATIONS = [("seq", "flat"), ("best", "tree"), ("seq", "tree"), ("best", "fl
 SESSION = 10  # programs that run on one image
 SIZE, SHORT_SIZES = 1 << 18, (1024, 1536, 2048, 3072, 4096)
 MOST_TYPES = 28
+MOST_SHOWN = 200  # the bytes of a line that are shown before and after the beginning of an error
 
 INT, TEXT = ("int",), ("text",)
 SEQUENCES, MAPS, CELLS = ("vec", "list"), ("map", "flat_map"), ("own", "shared")
@@ -1630,6 +1631,12 @@ def damaged(rng, texts):
     return bytes(data)
 
 
+def is_long(source, column):
+    """Whether a line is too long to be shown with an error in this column."""
+    before = len(source[:column - 1].encode())
+    return before >= MOST_SHOWN or len(source.encode()) - before >= MOST_SHOWN
+
+
 def told_wrong(data, told, status):
     """What is wrong with what `compile` tells of a program, or None."""
     if not told:
@@ -1659,6 +1666,9 @@ def told_wrong(data, told, status):
             while at < len(lines) and not HEADER.fullmatch(lines[at].encode()) and not lines[at].startswith("hint: "):
                 at += 1
         else:
+            if is_long(source, column):
+                at += lines[at:at + 1] != [] and lines[at].startswith("hint: ")
+                continue
             echo, carets = (lines[at:at + 2] + ["", ""])[:2]
             at += 2
             if not CONTROL.search(source):
