@@ -5,6 +5,7 @@ use script_syntax::parse;
 use seg_layout::TypeTable;
 use std::alloc::{AllocError, Global};
 use std::fmt::Write;
+use std::process::Abort;
 use std::test::Fail;
 
 /// A line for each error of a program, or "none". After `/` the hint.
@@ -31,19 +32,27 @@ fn report(alloc: Global, program: &str) -> Result<String, AllocError> {
     }
 }
 
-#[test]
-fn meanings_are_checked(rt: HostRuntime) -> Result<(), Fail> {
-    for (program, reported) in &WRONG {
-        assert!(rt;
-            report(rt.alloc(), program)?.as_str() == *reported,
-            "{program}"
-        );
+/// Checks what is reported of programs.
+fn check_reports(
+    rt: &(impl Abort + AllocGlobal),
+    programs: &[(&str, &str)],
+) -> Result<(), AllocError> {
+    for (program, reported) in programs {
+        assert!(rt; report(rt.alloc(), program)?.as_str() == *reported);
     }
     Ok(())
 }
 
-/// Programs with one of each error, and its report.
-static WRONG: [(&str, &str); 109] = [
+#[test]
+fn meanings_are_checked(rt: HostRuntime) -> Result<(), Fail> {
+    check_reports(&rt, &WRONG_NAMES)?;
+    check_reports(&rt, &WRONG_EXPRESSIONS)?;
+    check_reports(&rt, &WRONG_STATEMENTS)?;
+    Ok(check_reports(&rt, &WRONG_CHANGES)?)
+}
+
+/// Programs with an error in a declaration or a name, and its report.
+static WRONG_NAMES: [(&str, &str); 27] = [
     (
         "fail { stop }\nfail { stop }",
         "2:1: there is a `fail` part already / -\n",
@@ -146,6 +155,10 @@ static WRONG: [(&str, &str); 109] = [
         "object a[3]: int\nprint a ?? 0",
         "2:7: `a` is an array: it wants a number / write `..[n]`\n",
     ),
+];
+
+/// Programs with an error in an expression or a call, and its report.
+static WRONG_EXPRESSIONS: [(&str, &str); 27] = [
     (
         "const c = 1\nc = 2",
         "2:1: `c` is a constant, and no place / -\n",
@@ -242,6 +255,10 @@ static WRONG: [(&str, &str); 109] = [
         "3:3: list<int> is wanted here, and this is text / -\n",
     ),
     ("break", "1:1: `break` stands in no loop / -\n"),
+];
+
+/// Programs with an error in a statement or a lookup, and its report.
+static WRONG_STATEMENTS: [(&str, &str); 27] = [
     (
         "return 1",
         "1:1: `return` stands in no function / the program is left by `stop`\n",
@@ -341,6 +358,10 @@ static WRONG: [(&str, &str); 109] = [
         "object s: shared<int>\ns = 1",
         "2:3: shared<int> isn't set / write `freeze .. = ..` or `share .. = ..`\n",
     ),
+];
+
+/// Programs with an error in a change of an object, and its report.
+static WRONG_CHANGES: [(&str, &str); 28] = [
     (
         "object l: list<int>\nl = 1",
         "2:3: list<int> isn't set / its items are set or pushed\n",

@@ -1,11 +1,12 @@
 //! Programs that are compiled and run.
 
-use super::runs::{RUNS, Run};
+use super::runs::{MORE_RUNS, RUNS, Run};
 use script_compile::{Failure, compile};
 use script_syntax::parse;
 use seg_layout::TypeTable;
 use std::alloc::{AllocError, Global};
 use std::fmt::Write;
+use std::process::Abort;
 use std::test::Fail;
 use support_runs::{BEST_TREE, PLAIN, SEQ_FLAT, Setting, empty, outcome_of};
 
@@ -69,19 +70,15 @@ fn run(alloc: Global, run: &Run, image: Vec<u8>) -> Result<(String, Vec<u8>), Fa
     Ok((printed, image))
 }
 
-#[test]
-fn programs_print_what_they_should(rt: HostRuntime) -> Result<(), Fail> {
+/// Checks what runs print.
+fn check_runs(rt: &(impl Abort + AllocGlobal), runs: &[Run]) -> Result<(), Fail> {
     let alloc = rt.alloc();
     let mut name = "";
     let mut image = Vec::new(alloc);
-    for expected in &RUNS {
+    for expected in runs {
         if expected.image != name {
             name = expected.image;
-            image = if name == "tiny" {
-                empty(alloc, 736, SEQ_FLAT)?
-            } else {
-                empty(alloc, 8192, BEST_TREE)?
-            };
+            image = new_image(alloc, name)?;
         }
         let (printed, after) = run(alloc, expected, image)?;
         image = after;
@@ -89,4 +86,19 @@ fn programs_print_what_they_should(rt: HostRuntime) -> Result<(), Fail> {
         assert!(rt; found == expected.printed, "{name}: {found}");
     }
     Ok(())
+}
+
+/// An empty image for a group of runs.
+fn new_image(alloc: Global, name: &str) -> Result<Vec<u8>, Fail> {
+    if name == "tiny" {
+        empty(alloc, 736, SEQ_FLAT)
+    } else {
+        empty(alloc, 8192, BEST_TREE)
+    }
+}
+
+#[test]
+fn programs_print_what_they_should(rt: HostRuntime) -> Result<(), Fail> {
+    check_runs(&rt, &RUNS)?;
+    check_runs(&rt, &MORE_RUNS)
 }

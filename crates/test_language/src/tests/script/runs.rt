@@ -11,7 +11,7 @@ pub struct Run {
     pub printed: &'static str,
 }
 
-pub static RUNS: [Run; 25] = [
+pub static RUNS: [Run; 15] = [
     Run {
         image: "counter",
         input: "",
@@ -102,6 +102,10 @@ pub static RUNS: [Run; 25] = [
         programs: &[CONFIGURATION, READER],
         printed: "1=debug\n2=8080\nversion 1, and 2 is published\n",
     },
+];
+
+/// More runs, with other groups.
+pub static MORE_RUNS: [Run; 10] = [
     Run {
         image: "shop",
         input: "",
