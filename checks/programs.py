@@ -1666,7 +1666,7 @@ def told_wrong(data, told, status):
             while at < len(lines) and not HEADER.fullmatch(lines[at].encode()) and not lines[at].startswith("hint: "):
                 at += 1
         else:
-            if is_long(source, column):
+            if is_long(source, column) and lines[at:at + 1] != [source]:
                 at += lines[at:at + 1] != [] and lines[at].startswith("hint: ")
                 continue
             echo, carets = (lines[at:at + 2] + ["", ""])[:2]
