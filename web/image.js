@@ -121,7 +121,7 @@ export class ImageBytes {
       starts.push(at);
       at += bytes;
     }
-    return new Blocks(this, Uint32Array.from(starts), at);
+    return new Blocks(this, new Uint32Array(starts), at);
   }
 
   /** The named objects, in order: the name, the type, the number of values, and the positions of the entry and of the object. */
