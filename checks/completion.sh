@@ -43,11 +43,13 @@ completes "--force" segtool new --f
 completes "--base --explain --force --help --input --room" segtool run counter.image --
 completes "" segtool run --base 1
 completes "--help --version" segtool --
-completes "count.text counter.image" segtool run coun
-completes "count.text counter.image" segtool run a b c d coun
-completes "count.text counter.image" segtool trace --input coun
-completes "cache.text" segtool run --base 16 cach
+completes "count.lez count.text counter.image" segtool run coun
+completes "count.lez count.text counter.image" segtool run a b c d coun
+completes "count.lez count.text counter.image" segtool trace --input coun
+completes "cache.lez cache.text" segtool run --base 16 cach
 completes "" segtool check counter.image coun
+completes "--explain --force --help --on" segtool compile count.lez out --
+completes "counter.image" segtool compile count.lez out --on counter
 
 if command -v zsh > /dev/null; then
   zsh -n "$completion/_segtool" || wrong=$((wrong + 1))
