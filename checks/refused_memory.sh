@@ -20,8 +20,13 @@ renew() {
   cd "$work/now"
 }
 
+# with --explain the fault may be explained too
 is_refused() {
-  [ "$1" = 1 ] && [ "$(cat "$work/err")" = "fault 1" ] && diff -r "$work/files" "$work/now" > "$work/diff"
+  [ "$1" = 1 ] || return
+  case $(cat "$work/err") in
+    "fault 1" | "fault 1"$'\n'"the host refused a request for memory") diff -r "$work/files" "$work/now" > "$work/diff" ;;
+    *) return 1 ;;
+  esac
 }
 
 is_done() {
