@@ -17,7 +17,7 @@ MEMORY = "/dev/shm" if os.path.isdir("/dev/shm") else None
 MOST_SIZE = 1 << 30
 MOST_STEPS = 1_000_000_000
 MOST_CODE = 4096
-PARTS = ("images", "values", "names", "clients")
+PARTS = ("images", "values", "names", "clients", "programs")
 
 
 def nodes(kind, push, count):
@@ -42,6 +42,16 @@ FINDOR r0 - t1 k0
 ELSE
 END
 """
+
+
+def longest_program(statements):
+    """A program with so many statements, each of a few instructions."""
+    return "let a = 1\n" + "a = a + 1\n" * statements + "print a\n"
+
+
+def deepest_program(levels):
+    """A program whose expression has this many levels."""
+    return f"print {'(' * levels}1{')' * levels}\n"
 
 
 def large_types():
@@ -128,16 +138,20 @@ class Limits:
         self.row("check an empty image of 2^30 bytes", "check", "image")
         self.row("run an empty client on 2^30 bytes", "run", "image", "image", "empty")
         self.row("grow beyond 2^30 bytes, which is refused", "grow", "image", "16", status=1)
-        self.client("list", nodes("list", "PUSH r4 r0", 16_000_000))
-        self.client("map", nodes("map", "PUTK r4 r0 r3", 16_000_000))
+        # more nodes than there is memory for: a list's take 32 bytes, a map's 48
+        self.client("list", nodes("list", "PUSH r4 r0", 34_000_000))
+        self.client("map", nodes("map", "PUTK r4 r0 r3", 34_000_000))
         for fit in ("best", "seq"):
             self.quiet("new", "image", str(MOST_SIZE), fit, "tree")
             self.row(f"fill 2^30 bytes with a list, {fit}", "run", "image", "saved", "list")
             self.row(f"check the list, {fit}", "check", "saved")
+            self.row(f"shrink it, {fit}", "shrink", "saved")
         self.quiet("new", "image", str(MOST_SIZE), "best", "tree")
         self.row("fill 2^30 bytes with a map", "run", "image", "saved", "map")
         self.row("check the map", "check", "saved")
         self.row("list its objects", "list", "saved")
+        self.row("show 20 of its keys", "show", "saved")
+        self.row("print its memory", "stat", "saved")
         os.remove("saved")
 
     def values(self):
