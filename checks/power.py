@@ -16,6 +16,8 @@ In each state the file that the command writes must be the old one or the new on
 must be the new one. Every other file must be as it was, except new files with the names that docs/FORMATS.md
 promises. `segtool check` must accept each image, and the same command must work on what the power cut left.
 
+Cases of commands that this segtool doesn't have are left out, and named at the end.
+
 At the end the check is checked: with a kind of sync left out of the record, it must find a wrong state. Needs a C
 compiler."""
 import argparse
@@ -62,13 +64,24 @@ END
 """
 
 
+# a program that the compiler warns of, since nothing handles the end of memory
+WARNED = """object runs: int
+runs += 1
+print runs ?? 0
+"""
+
+
 @dataclass
 class Case:
-    """A command, the file that it writes, and the links of the folder."""
+    """A command, the file that it writes, and the links of the folder. If `absent` is set, the command has nothing to do
+    on the new file: there it ends with status 1 and this line. If `is_new` is set, a segtool may be without the
+    command."""
 
     words: list
     target: str
     link: str = ""
+    absent: str = ""
+    is_new: bool = False
 
 
 CASES = [
@@ -87,6 +100,16 @@ CASES = [
     Case(["asm", "increment.text", "fill.client"], "fill.client"),
     Case(["map", "large.image", "--svg", "fresh.svg"], "fresh.svg"),
     Case(["map", "counter.image", "--svg", "picture.svg"], "picture.svg"),
+    Case(["compile", "increment.lez", "fresh.client"], "fresh.client"),
+    Case(["compile", "increment.lez", "fill.client", "--on", "counter.image"], "fill.client"),
+    Case(["compile", "warned.lez", "notes", "--force"], "notes"),
+    Case(["run", "counter.image", "counter.image", "increment.lez"], "counter.image"),
+    Case(["set", "counter.image", "x", "7"], "counter.image", is_new=True),
+    Case(["set", "filled.image", "lines[1]", "another line"], "filled.image", is_new=True),
+    Case(["del", "counter.image", "x"], "counter.image", absent="absent x", is_new=True),
+    Case(["del", "filled.image", "lines"], "filled.image", absent="absent lines", is_new=True),
+    Case(["load", "filled.dump", "fresh.image"], "fresh.image", is_new=True),
+    Case(["load", "filled.dump", "large.image"], "large.image", is_new=True),
 ]
 
 
@@ -306,7 +329,7 @@ class Check:
     """Runs commands, and judges what a power cut leaves of each."""
 
     def __init__(self, segtool, work):
-        self.segtool, self.work = segtool, work
+        self.segtool, self.work, self.commands = segtool, work, {}
         self.files, self.library = work / "files", work / "power.so"
         subprocess.run(["cc", "-O1", "-shared", "-fPIC", "-o", self.library, HERE / "power.c", "-ldl"], check=True)
         self.fill()
@@ -319,19 +342,36 @@ class Check:
         ran = self.run(folder, words, **environment)
         if ran.returncode != 0:
             raise Wrong(f"status {ran.returncode}: {ran.stderr.decode(errors='replace')}")
+        return ran
+
+    def has(self, command):
+        """Whether this segtool has a command."""
+        if command not in self.commands:
+            self.commands[command] = self.run(self.files, [command, "--help"]).returncode == 0
+        return self.commands[command]
+
+    def cases(self, cases, word):
+        """The cases with a word whose commands this segtool has, and the commands that it doesn't have."""
+        wanted = [case for case in cases if word in " ".join(case.words)]
+        lacking = {case.words[0] for case in wanted if case.is_new and not self.has(case.words[0])}
+        return [case for case in wanted if case.words[0] not in lacking], lacking
 
     def fill(self):
         """Makes the files that commands read and overwrite."""
         self.files.mkdir()
         (self.files / "folder").mkdir()
-        for name in ("counter.image", "increment.client", "increment.text"):
+        for name in ("counter.image", "increment.client", "increment.lez", "increment.text"):
             shutil.copy(HERE.parent / "examples" / name, self.files)
         (self.files / "notes").write_text("notes\n" * 1000)
+        (self.files / "warned.lez").write_text(WARNED)
         (self.files / "fill.text").write_text(FILL)
         self.must(self.files, ["asm", "fill.text", "fill.client"])
         for name in ("large.image", "folder/other.image"):
             self.must(self.files, ["new", name, str(5 * PAGE + 16), "best", "tree"])
         self.must(self.files, ["map", "large.image", "--svg", "picture.svg"])
+        self.must(self.files, ["run", "large.image", "filled.image", "fill.client"])
+        if self.has("dump"):
+            (self.files / "filled.dump").write_bytes(self.must(self.files, ["dump", "filled.image"]).stdout)
 
     def copy(self, case):
         """A new copy of the files, with the case's link."""
@@ -388,7 +428,10 @@ class Check:
                     (folder / name).symlink_to(bytes[3:].decode())
                 else:
                     (folder / name).write_bytes(bytes)
-            self.must(folder, case.words)
+            ran = self.run(folder, case.words)
+            is_done = case.absent and state[case.target] == after[case.target]
+            if (ran.returncode, ran.stderr.decode()) != (1, case.absent + "\n") if is_done else ran.returncode != 0:
+                raise Wrong(f"again, status {ran.returncode}: {ran.stderr.decode(errors='replace')}")
             is_old = state.get(case.target) == before.get(case.target)
             if is_old and (folder / case.target).read_bytes() != after[case.target]:
                 raise Wrong("the command doesn't do on the old file what it did before")
@@ -417,9 +460,8 @@ def main():
     wrong, all_states, commands = 0, 0, 0
     with tempfile.TemporaryDirectory(dir=MEMORY) as work:
         check = Check(given.segtool.resolve(), Path(work).resolve())
-        for case in CASES:
-            if given.only not in " ".join(case.words):
-                continue
+        cases, lacking = check.cases(CASES, given.only)
+        for case in cases:
             commands += 1
             try:
                 calls, found = check.check(case)
@@ -432,6 +474,8 @@ def main():
             if not check.finds(CASES[3], without):
                 wrong += 1
                 print(f"no wrong state is found without `{without}`")
+    if lacking:
+        print(f"this segtool doesn't have: {', '.join(sorted(lacking))}")
     print(f"{commands} commands, {all_states} states, {wrong} wrong")
     return wrong > 0
 
