@@ -50,10 +50,18 @@ bool is_over(const choices *from)
     return from->bytes != NULL && from->left == 0;
 }
 
+/* Eight bytes at a time, since whole images are hashed. */
 uint64_t hash_bytes(uint64_t hash, const void *bytes, size_t len)
 {
-    for (size_t i = 0; i < len; i++) {
-        hash = (hash ^ ((const uint8_t *)bytes)[i]) * 0x100000001b3u;
+    const uint8_t *at = bytes;
+    for (; len >= 8; at += 8, len -= 8) {
+        uint64_t number;
+        memcpy(&number, at, sizeof number);
+        hash = (hash ^ number) * 0x9e3779b97f4a7c15u;
+        hash ^= hash >> 32;
+    }
+    for (; len > 0; at++, len--) {
+        hash = (hash ^ *at) * 0x100000001b3u;
     }
     return hash;
 }
@@ -63,19 +71,58 @@ static size_t pages(size_t len)
     return (len + PAGE - 1) / PAGE * PAGE;
 }
 
-uint8_t *guarded(size_t len)
+/* Memory with a page behind it that can't be used. A few are kept, since the system takes long to make one. */
+enum { KEPT_BLOCKS = 16 };
+static struct block {
+    uint8_t *memory;
+    size_t len;
+    bool is_used;
+} kept[KEPT_BLOCKS];
+
+static uint8_t *new_block(size_t len)
 {
-    uint8_t *memory = mmap(NULL, pages(len) + PAGE, PROT_READ | PROT_WRITE, MAP_PRIVATE | MAP_ANONYMOUS, -1, 0);
-    if (memory == MAP_FAILED || mprotect(memory + pages(len), PAGE, PROT_NONE) != 0) {
+    uint8_t *memory = mmap(NULL, len + PAGE, PROT_READ | PROT_WRITE, MAP_PRIVATE | MAP_ANONYMOUS, -1, 0);
+    if (memory == MAP_FAILED || mprotect(memory + len, PAGE, PROT_NONE) != 0) {
         perror("memory");
         exit(2);
     }
-    return memory + pages(len) - len;
+    return memory;
+}
+
+uint8_t *guarded(size_t len)
+{
+    for (int i = 0; i < KEPT_BLOCKS; i++) {
+        struct block *it = &kept[i];
+        if (!it->is_used && (it->memory == NULL || it->len == pages(len))) {
+            if (it->memory == NULL) {
+                it->len = pages(len);
+                it->memory = new_block(it->len);
+            }
+            it->is_used = true;
+            return memset(it->memory + it->len - len, 0, len);
+        }
+    }
+    return new_block(pages(len)) + pages(len) - len;
 }
 
 void free_guarded(uint8_t *memory, size_t len)
 {
-    munmap(memory + len - pages(len), pages(len) + PAGE);
+    memory += len - pages(len);
+    static int next;
+    for (int i = 0; i < KEPT_BLOCKS; i++) {
+        if (kept[i].memory == memory) {
+            kept[i].is_used = false;
+            return;
+        }
+    }
+    /* takes the place of a kept block, so that the sizes that are used now are kept */
+    next = (next + 1) % KEPT_BLOCKS;
+    if (!kept[next].is_used) {
+        munmap(kept[next].memory, kept[next].len + PAGE);
+        kept[next] = (struct block){memory, pages(len), false};
+    } else {
+        munmap(memory, pages(len) + PAGE);
+    }
 }
 
 /* ---- the library's requests for memory: link with -Wl,--wrap=malloc,--wrap=realloc,--wrap=free */
@@ -143,6 +190,9 @@ void print_counters(void)
         [RUNS] = "runs",
         [TEXTS] = "texts of clients",
         [BAD_TEXTS] = "other texts",
+        [PROGRAMS] = "compiled programs",
+        [BAD_PROGRAMS] = "programs with errors",
+        [COMMANDS] = "commands",
         [CALLS] = "calls",
         [COMPARED] = "calls compared between segments", [SHORT_CALLS] = "calls out of memory",
         [REFUSALS] = "refused requests for host memory",

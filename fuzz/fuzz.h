@@ -9,7 +9,7 @@
 #include <stddef.h>
 #include <stdint.h>
 
-enum { MOST_INPUT = 1 << 18, MOST_CLIENT = 1 << 16 };
+enum { MOST_INPUT = 1 << 18, MOST_CLIENT = 1 << 16, MOST_PROGRAM = 1 << 14, MOST_PROGRAM_STEPS = 300000 };
 
 /* ---- choices */
 
@@ -32,7 +32,7 @@ uint64_t hash_bytes(uint64_t hash, const void *bytes, size_t len);
 
 /* ---- memory and failures */
 
-/* Memory of `len` bytes that ends directly before memory that can't be used. */
+/* Memory of `len` bytes, all 0, that ends directly before memory that can't be used. */
 uint8_t *guarded(size_t len);
 void free_guarded(uint8_t *memory, size_t len);
 
@@ -65,10 +65,14 @@ size_t generate_client(choices *from, const lezgauri_type *types, uint32_t count
 /* A sound image. Returns its length, at most `room`. */
 size_t generate_image(choices *from, uint8_t *image, size_t room);
 
+/* A program, most of which compile. Returns its length, at most MOST_PROGRAM. */
+size_t generate_program(choices *from, uint8_t *program);
+
 /* Each changes bytes in place, knowing what they are, and returns the new length, at most `room`. */
 size_t mutate_image(choices *from, uint8_t *image, size_t len, size_t room);
 size_t mutate_client(choices *from, uint8_t *client, size_t len, size_t room);
 size_t mutate_text(choices *from, uint8_t *text, size_t len, size_t room);
+size_t mutate_program(choices *from, uint8_t *text, size_t len, size_t room);
 size_t mutate_bytes(choices *from, uint8_t *bytes, size_t len, size_t room);
 
 /* ---- targets */
@@ -79,18 +83,46 @@ typedef struct target {
     /* makes an input from nothing */
     size_t (*generate)(choices *from, uint8_t *input);
     size_t (*mutate)(choices *from, uint8_t *input, size_t len, size_t room);
+    /* how many inputs in a row are changes of one generated input */
+    uint32_t variants;
+    /* whether what it tests is there; null if it always is */
+    bool (*is_there)(void);
 } target;
 
 extern const target targets[];
+/* The targets that need segtool's object file: only if this is compiled with SEGTOOL. */
+extern const target program_targets[];
 /* The target with this name, or null. */
 const target *find_target(const char *name);
 
 /* What the targets counted, so that a fuzzer that only meets refusals is noticed. */
-enum { SOUND_IMAGES, FAULTY_IMAGES, ACCEPTED, REFUSED, RUNS, TEXTS, BAD_TEXTS, CALLS, COMPARED, SHORT_CALLS, REFUSALS, COUNTERS };
+typedef enum counter {
+    SOUND_IMAGES,
+    FAULTY_IMAGES,
+    ACCEPTED,
+    REFUSED,
+    RUNS,
+    TEXTS,
+    BAD_TEXTS,
+    PROGRAMS,
+    BAD_PROGRAMS,
+    COMMANDS,
+    CALLS,
+    COMPARED,
+    SHORT_CALLS,
+    REFUSALS,
+    COUNTERS
+} counter;
 extern uint64_t counters[COUNTERS];
 void print_counters(void);
 
 /* A hash of all objects of a segment, as the calls that read find them. */
 uint64_t hash_objects(const lezgauri_handle *segment);
+
+/* Runs an accepted client on an image by each call that runs clients: all must do the same, at each address and after
+ * moves, in at most `bound` steps. */
+void compare_calls(const uint8_t *image, size_t image_len, const uint8_t *client, size_t len, uint64_t bound);
+/* Runs an accepted client twice on new segments of each allocator and each index, which must agree. */
+void compare_configs(const uint8_t *client, size_t len);
 
 #endif

@@ -6,6 +6,9 @@
 
 enum { MOST_OUTPUT = 1 << 16, MOST_BOUND = 20000, MOST_DEPTH = 40, MOST_VALUES = 20000, CONFIGS = 4 };
 
+/* Clients run on one of so many sound images: they take much longer than the checks. */
+enum { FITTING = 8 };
+
 static const uint64_t START = 0xcbf29ce484222325u;
 
 static uint32_t allocator_of(int config)
@@ -249,7 +252,7 @@ static bool is_same(const outcome *one, const outcome *two)
 }
 
 /* Two allocators and two indexes agree, unless memory is short: then larger segments change the outcome. */
-static void compare_configs(const uint8_t *client, size_t len)
+void compare_configs(const uint8_t *client, size_t len)
 {
     static const size_t sizes[] = {1 << 16, 1 << 22, 1 << 25};
     outcome of[3][CONFIGS];
@@ -271,8 +274,40 @@ static void compare_configs(const uint8_t *client, size_t len)
     wrong("allocators or indexes disagree");
 }
 
+/* Runs a client twice in lent memory, which moves to another address between the runs or not. */
+static outcome run_twice(const uint8_t *image, size_t image_len, const uint8_t *client, size_t len, bool moves)
+{
+    lezgauri_handle *segment;
+    size_t room = moves ? image_len + 48 : image_len;
+    uint8_t *memory = guarded(image_len);
+    memcpy(memory, image, image_len);
+    need_ok("open_in", lezgauri_open_in(memory, image_len, image_len, &segment, NULL));
+    run_by(0, segment, client, len);
+    if (moves) {
+        uint8_t *moved = guarded(room);
+        lezgauri_close(segment);
+        memcpy(moved, memory, image_len);
+        memset(memory, 0x5a, image_len);
+        need_ok("open_in after a move", lezgauri_open_in(moved, image_len, room, &segment, NULL));
+        free_guarded(memory, image_len);
+        memory = moved;
+    }
+    outcome of = run_by(0, segment, client, len);
+    lezgauri_close(segment);
+    free_guarded(memory, room);
+    return of;
+}
+
+/* A move between two runs changes nothing. */
+static void compare_moves(const uint8_t *image, size_t image_len, const uint8_t *client, size_t len)
+{
+    outcome one = run_twice(image, image_len, client, len, false), two = run_twice(image, image_len, client, len, true);
+    need_same("a move", &one, &two);
+    NEED(one.image == two.image, "a move changes the image that a run leaves");
+}
+
 /* Each call that runs a client does the same on the same image, at each address. */
-static void compare_calls(const uint8_t *image, size_t image_len, const uint8_t *client, size_t len, uint64_t bound)
+void compare_calls(const uint8_t *image, size_t image_len, const uint8_t *client, size_t len, uint64_t bound)
 {
     outcome first = {0};
     for (int call = 0; call < 3; call++) {
@@ -302,6 +337,9 @@ static void compare_calls(const uint8_t *image, size_t image_len, const uint8_t 
          "lezgauri_run has another output");
     NEED(hash_bytes(START, saved, image_len) == first.image, "lezgauri_run saves another image");
     free(saved);
+    if (first.status == LEZGAURI_OK) {
+        compare_moves(image, image_len, client, len);
+    }
 }
 
 /* ---- images */
@@ -346,7 +384,9 @@ static void run_image(const uint8_t *input, size_t len)
         counters[SOUND_IMAGES]++;
         uint64_t hash = hash_objects(reader);
         NEED(hash_objects(copy) == hash && hash_objects(segment) == hash, "handles see different objects");
-        run_fitting_client(memory, len, reader, hash);
+        if (hash % FITTING == 0) {
+            run_fitting_client(memory, len, reader, hash);
+        }
         lezgauri_close(reader);
         lezgauri_close(segment);
         lezgauri_close(copy);
@@ -366,7 +406,7 @@ static void run_image(const uint8_t *input, size_t len)
 
 static size_t image_input(choices *from, uint8_t *input)
 {
-    return generate_image(from, input, 1 << 16);
+    return generate_image(from, input, once_in(from, 8) ? 1 << 16 : 1 << 12);
 }
 
 /* ---- clients */
@@ -469,17 +509,27 @@ void run_memory(const uint8_t *input, size_t len);
 size_t memory_input(choices *from, uint8_t *input);
 
 const target targets[] = {
-    {"image", run_image, image_input, mutate_image},     {"client", run_client, client_input, mutate_client},
-    {"text", run_text, text_input, mutate_text},         {"calls", run_calls, calls_input, mutate_bytes},
-    {"memory", run_memory, memory_input, mutate_client}, {NULL, NULL, NULL, NULL},
+    {"image", run_image, image_input, mutate_image, 64, NULL},
+    {"client", run_client, client_input, mutate_client, 32, NULL},
+    {"text", run_text, text_input, mutate_text, 32, NULL},
+    {"calls", run_calls, calls_input, mutate_bytes, 2, NULL},
+    {"memory", run_memory, memory_input, mutate_client, 2, NULL},
+    {NULL, NULL, NULL, NULL, 0, NULL},
 };
 
 const target *find_target(const char *name)
 {
-    for (const target *it = targets; it->name != NULL; it++) {
-        if (name != NULL && strcmp(it->name, name) == 0) {
+    for (const target *it = targets; it->name != NULL && name != NULL; it++) {
+        if (strcmp(it->name, name) == 0) {
             return it;
         }
     }
+#ifdef SEGTOOL
+    for (const target *it = program_targets; it->name != NULL && name != NULL; it++) {
+        if (strcmp(it->name, name) == 0) {
+            return it;
+        }
+    }
+#endif
     return NULL;
 }
