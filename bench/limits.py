@@ -182,6 +182,20 @@ class Limits:
         self.row("verify a client of 4096 instructions and 10^9 steps", "verify", "image", "longest")
         self.row("run it", "run", "image", "image", "longest")
 
+    def program(self, text):
+        with open("program.lez", "w", encoding="ascii") as file:
+            file.write(text)
+
+    def programs(self):
+        self.program(longest_program(2000))
+        self.row("compile a program of 4,000 instructions", "compile", "program.lez", "client", "--force")
+        self.program(longest_program(4000))
+        self.row("compile one of 8,000, which is refused", "compile", "program.lez", "client", "--force", status=1)
+        self.program(deepest_program(63))
+        self.row("compile an expression of 64 levels", "compile", "program.lez", "client", "--force")
+        self.program(f"# {'x' * 97}\n" * 10_480)
+        self.row("compile a program of 2^20 bytes", "compile", "program.lez", "client", "--force")
+
 
 def main():
     parser = argparse.ArgumentParser(description=__doc__.partition("\n\n")[0])
