@@ -1,6 +1,6 @@
 use crate::tests::support::canonical;
 use client_code::{Number, OPERATIONS, Operand, Operation, Role};
-use std::alloc::AllocError;
+use std::alloc::{AllocError, Global};
 use std::test::Fail;
 use support_data::Random;
 
@@ -26,12 +26,12 @@ const FIRST_FAMILY: u32 = 4;
 
 /// Writes random code that is valid by the instruction table, with parts at most 8 deep.
 #[derive(Drop)]
-struct Writer<'a> {
-    random: &'a mut Random,
-    text: &'a mut String,
+struct Writer {
+    random: Random,
+    text: String,
 }
 
-impl Writer<'_> {
+impl Writer {
     fn register(&mut self) -> Result<(), AllocError> {
         let n = self.random.below(16);
         write!(self.text, " r{n}")
@@ -110,19 +110,22 @@ impl Writer<'_> {
     }
 }
 
+/// Whether a client with random code is printed as its text, which is canonical.
+fn goes_round(writer: &mut Writer, alloc: Global) -> Result<bool, Fail> {
+    writer.text = String::from_str(alloc, FRONT)?;
+    writer.part(8)?;
+    let printed = canonical(alloc, writer.text.as_bytes())?;
+    Ok(printed.as_slice() == writer.text.as_bytes())
+}
+
 #[test]
 fn random_texts_go_round(rt: HostRuntime) -> Result<(), Fail> {
-    let mut random = Random::new(1);
+    let mut writer = Writer {
+        random: Random::new(1),
+        text: String::new(rt.alloc()),
+    };
     for _ in 0..2000 {
-        let mut text = String::from_str(rt.alloc(), FRONT)?;
-        let mut writer = Writer {
-            random: &mut random,
-            text: &mut text,
-        };
-        writer.part(8)?;
-        // a canonical text is printed again
-        let printed = canonical(rt.alloc(), text.as_bytes())?;
-        assert!(rt; printed.as_slice() == text.as_bytes(), "{text}");
+        assert!(rt; goes_round(&mut writer, rt.alloc())?, "{}", writer.text);
     }
     Ok(())
 }
