@@ -309,4 +309,9 @@ impl Name {
     pub fn is_visible(&self) -> bool {
         !matches!(self.meaning, Meaning::Hidden(_))
     }
+
+    /// Whether the statement that gives the name has an error.
+    pub fn is_unknown(&self) -> bool {
+        matches!(self.meaning, Meaning::Unknown)
+    }
 }

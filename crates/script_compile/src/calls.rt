@@ -81,6 +81,7 @@ impl Compiler<'_> {
             false => None,
         };
         self.emitter.leave_flat();
+        let exits = self.exits();
         self.push_construct(ConstructKind::Function {
             result,
             function: position,
@@ -88,6 +89,7 @@ impl Compiler<'_> {
             names,
             wants_value,
             held,
+            exits,
         });
         self.start_function(function)
     }
@@ -109,6 +111,7 @@ impl Compiler<'_> {
                     names,
                     wants_value,
                     held,
+                    exits,
                 },
                 running,
                 ..
@@ -129,6 +132,22 @@ impl Compiler<'_> {
         self.emitter.keep_temporaries(&held);
         if let Some(result) = result {
             self.emitter.end_result(result, wants_value);
+        }
+        if wants_value && self.exits() > exits {
+            self.guard_rest()
+        }
+    }
+
+    /// What follows a call in its statement runs only if the function didn't stop the program.
+    fn guard_rest(&mut self) {
+        let Some(construct) = self.constructs.last_mut() else {
+            return;
+        };
+        match construct.running {
+            Some(running) => self.emitter.guard_rest(running),
+            None => {
+                construct.wants_running = true;
+            }
         }
     }
 

@@ -8,7 +8,7 @@ use script_code::{
     Register, Trouble, WarningKind, append, link,
 };
 use script_syntax::{Span, Statement, StatementKind, Tree};
-use script_values::{Emitter, EmitterMark, Loop, Sequence, Task};
+use script_values::{Emitter, EmitterMark, Handler, Loop, Sequence, Task};
 use std::alloc::Global;
 
 /// How many tasks one program may take. The largest client takes far fewer.
@@ -46,6 +46,8 @@ pub enum ConstructKind {
         wants_value: bool,
         /// The registers that are held during the call.
         held: [bool; 16],
+        /// How many statements had left the construct that calls it.
+        exits: usize,
     },
 }
 
@@ -272,7 +274,8 @@ impl<'t> Compiler<'t> {
         };
         self.go_back(&mark);
         if let Some(part) = statement.otherwise {
-            self.emitter.then(&[Task::Block(part.block)]);
+            let handler = Handler::Part(part);
+            self.emitter.then(&[Task::Handle(handler, Register(0))]);
         }
         let names = self.emitter.names.len();
         let Some(block) = statement.body else {

@@ -2,6 +2,7 @@
 
 use crate::compiler::{Compiler, Construct, ConstructKind};
 use script_code::{COUNT, ErrorKind, Known, Register, append};
+use script_syntax::ExpressionAt;
 use script_values::{Loop, Task, Turn};
 
 impl Compiler<'_> {
@@ -46,11 +47,20 @@ impl Compiler<'_> {
                 self.emitter.test_index(found.go, index, end)
             }
             Turn::Items { place, key } => self.emitter.next_item(&place, key, found.go),
-            Turn::While(condition) => self.emitter.then(&[
-                Task::Evaluate(condition, Some(found.go)),
-                Task::MoveTo(found.go),
-            ]),
+            Turn::While(condition) => self.test_again(condition, found.go),
         }
+    }
+
+    /// Works out the condition of another turn. What it calls may stop the program, while a statement
+    /// before it may have left the turn.
+    fn test_again(&mut self, condition: ExpressionAt, go: Register) {
+        if let Some(running) = self.running() {
+            if self.emitter.has_call(condition) {
+                self.emitter.code.number(running, 1);
+            }
+        }
+        self.emitter
+            .then(&[Task::Evaluate(condition, Some(go)), Task::MoveTo(go)])
     }
 
     /// How many statements leave the innermost construct, or a loop around it.

@@ -1,12 +1,14 @@
 //! Arguments and parameters of functions.
 
 use crate::emitter::Emitter;
-use crate::task::Task;
+use crate::task::{PartEnd, Task};
 use script_code::{
-    About, COUNT, ErrorKind, Function, Key, Meaning, Place, Register, Root, Trouble, TypeAt, append,
+    About, COUNT, ErrorKind, Function, Key, Known, Meaning, Place, Register, Root, Trouble, TypeAt,
+    append,
 };
 use script_syntax::{
-    Block, ExpressionAt, ExpressionKind, Field, Range, Span, Statement, StatementKind, Tree,
+    Block, ExpressionAt, ExpressionKind, Field, Range, Span, Statement, StatementKind, Step,
+    StepKind, Tree, Value, ValueKind,
 };
 
 /// How many blocks a search visits.
@@ -39,7 +41,7 @@ impl Emitter<'_> {
             return self.begin_place_argument(wanted, argument);
         }
         let name = self.word(field.name);
-        let changes = self.assigns(&[function.body], name);
+        let changes = self.assigns(function.body, name);
         if self.plain_name(argument).is_some() && !changes {
             return self.then(&[Task::Evaluate(argument, None)]);
         }
@@ -163,7 +165,7 @@ impl Emitter<'_> {
                 About::of_types(wanted, found),
             );
         }
-        self.keep_keys(&mut place, &[function.body]);
+        self.keep_keys(&mut place, function.body);
         self.bind(
             field.name,
             Meaning::Place {
@@ -192,37 +194,37 @@ impl Emitter<'_> {
         self.code.usage.release(register);
     }
 
-    /// Keeps the keys of a place while a name refers to it. A key whose variable is set in these
-    /// blocks is copied.
-    pub fn keep_keys(&mut self, place: &mut Place, blocks: &[Block]) {
+    /// Keeps the keys of a place while a name refers to it. A key whose variable is set in this
+    /// block is copied.
+    pub fn keep_keys(&mut self, place: &mut Place, block: Block) {
         for at in place.first..place.end {
-            self.keep_way(at, blocks);
+            self.keep_way(at, block);
         }
         if let Root::Element(object, Key::Register(register)) = place.root {
-            let key = Key::Register(self.keep_key(register, blocks));
+            let key = Key::Register(self.keep_key(register, block));
             place.root = Root::Element(object, key);
         }
     }
 
     /// Keeps the key of the step at a position.
-    fn keep_way(&mut self, at: usize, blocks: &[Block]) {
+    fn keep_way(&mut self, at: usize, block: Block) {
         let Some(way) = self.ways.get(at).copied() else {
             return;
         };
         let Some(Key::Register(register)) = way.kind.key() else {
             return;
         };
-        let key = Key::Register(self.keep_key(register, blocks));
+        let key = Key::Register(self.keep_key(register, block));
         if let Some(way) = self.ways.get_mut(at) {
             way.kind = way.kind.with_key(key);
         }
     }
 
-    fn keep_key(&mut self, register: Register, blocks: &[Block]) -> Register {
+    fn keep_key(&mut self, register: Register, block: Block) -> Register {
         let mut kept = register;
         if let Some(span) = self.variable_in(register) {
             let name = self.word(span);
-            if self.assigns(blocks, name) {
+            if self.assigns(block, name) {
                 kept = self.code.take();
                 self.code.copy(kept, register);
             }
@@ -250,18 +252,26 @@ impl Emitter<'_> {
         None
     }
 
-    /// Whether a number with this name is set in these blocks.
-    pub fn assigns(&mut self, blocks: &[Block], word: &[u8]) -> bool {
+    /// Whether a number with this name is set in this block.
+    fn assigns(&mut self, block: Block, word: &[u8]) -> bool {
+        self.has_statement(block, Wanted::Sets(word))
+    }
+
+    /// Whether something in this block may remove a place, or move an owned object.
+    pub fn removes(&mut self, block: Block) -> bool {
+        self.has_statement(block, Wanted::Removes)
+    }
+
+    /// Whether a block has such a statement.
+    fn has_statement(&mut self, block: Block, wanted: Wanted<'_>) -> bool {
         let mut waiting = Vec::new(self.alloc);
-        for block in blocks {
-            add_block(&mut waiting, *block, &mut self.code.trouble);
-        }
+        add_block(&mut waiting, block, &mut self.code.trouble);
         for _ in 0..MOST_BLOCKS {
             let Some(block) = waiting.pop() else {
                 return false;
             };
-            if self.assigns_in(&mut waiting, block.statements, word)
-                || self.assigns_in(&mut waiting, block.following, word)
+            if self.has_one(&mut waiting, block.statements, wanted)
+                || self.has_one(&mut waiting, block.following, wanted)
             {
                 return true;
             }
@@ -269,16 +279,154 @@ impl Emitter<'_> {
         true
     }
 
-    /// Whether one of these statements sets a number with this name. If not, their blocks are added.
-    fn assigns_in(&mut self, waiting: &mut Vec<Block>, range: Range, word: &[u8]) -> bool {
+    /// Whether one of these statements is such a statement. If not, their blocks are added.
+    fn has_one(&mut self, waiting: &mut Vec<Block>, range: Range, wanted: Wanted<'_>) -> bool {
         let tree = self.tree;
         for statement in tree.statements(range) {
-            if assigns_name(tree, statement, word) {
+            if wanted.is_met(tree, statement) {
                 return true;
             }
             add_blocks(waiting, statement, &mut self.code.trouble);
         }
         false
+    }
+
+    // Calls that may stop the program
+
+    /// What is left of the innermost part, and what follows that part in the statement, runs only if
+    /// a register isn't 0.
+    pub fn guard_rest(&mut self, running: Register) {
+        let Some(end) = self.part_end() else {
+            return self.skip();
+        };
+        self.code.open_if(running);
+        self.insert_task(end.saturating_add(1), Task::EndRest);
+        if let Some(after) = self.after_part(end) {
+            self.insert_task(after, Task::GuardRest(running));
+        }
+    }
+
+    /// The position of the task that ends the innermost part, or the statement.
+    fn part_end(&self) -> Option<usize> {
+        for at in (0..self.tasks.len()).rev() {
+            if self.tasks.get(at)?.end_of_part().is_some() {
+                return Some(at);
+            }
+        }
+        None
+    }
+
+    /// The position under the task at which the innermost part is closed, unless the statement ends
+    /// with it.
+    fn after_part(&self, end: usize) -> Option<usize> {
+        match self.tasks.get(end)?.end_of_part()? {
+            PartEnd::Whole => None,
+            PartEnd::Part => Some(end),
+            PartEnd::Success => self.end_of_else(end),
+        }
+    }
+
+    /// The position of the task that ends an else part, which another task begins.
+    fn end_of_else(&self, begin: usize) -> Option<usize> {
+        for at in (0..begin).rev() {
+            if let Task::EndPart = self.tasks.get(at)? {
+                return Some(at);
+            }
+        }
+        None
+    }
+
+    /// Inserts a task under those from a position on.
+    fn insert_task(&mut self, at: usize, task: Task) {
+        if at > self.tasks.len() {
+            return;
+        }
+        if self.tasks.insert(at, task).is_err() {
+            self.code.trouble.is_out_of_memory = true;
+        }
+    }
+
+    /// Ends what `guard_rest` began. A name's number that is given in the part is 0 without it.
+    pub fn end_rest(&mut self) {
+        let given = self.code.registers;
+        self.code.begin_else();
+        for index in 0..COUNT {
+            let register = Register(index as u8);
+            if given.known(register) == Known::Number
+                && self.code.known(register) != Known::Number
+                && self.code.usage.is_held(register)
+            {
+                self.code.number(register, 0);
+            }
+        }
+        self.code.end_part()
+    }
+}
+
+/// A statement that is searched for.
+#[derive(Clone, Copy)]
+enum Wanted<'w> {
+    /// One that sets the number with this name.
+    Sets(&'w [u8]),
+    /// One that may remove a place, or move an owned object.
+    Removes,
+}
+
+impl Wanted<'_> {
+    fn is_met(self, tree: &Tree<'_>, statement: &Statement) -> bool {
+        match self {
+            Wanted::Sets(word) => assigns_name(tree, statement, word),
+            Wanted::Removes => may_remove(tree, statement),
+        }
+    }
+}
+
+/// Whether a statement may remove a place, or move an owned object.
+fn may_remove(tree: &Tree<'_>, statement: &Statement) -> bool {
+    match statement.kind {
+        StatementKind::Delete(_)
+        | StatementKind::Clear(_)
+        | StatementKind::Freeze { .. }
+        | StatementKind::Share { .. }
+        | StatementKind::Call(_) => true,
+        StatementKind::Let { value, .. } | StatementKind::IfLet { value, .. } => {
+            takes_away(tree, value)
+        }
+        StatementKind::Set { items, .. } => match tree.items(items) {
+            [item] => is_name(tree, item.value),
+            _ => false,
+        },
+        _ => false,
+    }
+}
+
+/// Whether a value is taken out of a place.
+fn takes_away(tree: &Tree<'_>, value: Value) -> bool {
+    let ValueKind::Expression(at) = value.kind else {
+        return matches!(value.kind, ValueKind::Take(_));
+    };
+    match place_steps(tree, at) {
+        Some(steps) => matches!(
+            tree.steps(steps).last(),
+            Some(Step { kind: StepKind::Method(_), .. })
+        ),
+        None => false,
+    }
+}
+
+/// Whether a value is a name alone.
+fn is_name(tree: &Tree<'_>, value: Value) -> bool {
+    match value.kind {
+        ValueKind::Expression(at) => matches!(place_steps(tree, at), Some(steps) if steps.is_empty()),
+        _ => false,
+    }
+}
+
+/// The steps of an expression that is a place.
+fn place_steps(tree: &Tree<'_>, at: ExpressionAt) -> Option<Range> {
+    match tree.expression(at)?.kind {
+        ExpressionKind::Place(steps) => Some(steps),
+        _ => None,
     }
 }
 

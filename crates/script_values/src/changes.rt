@@ -240,7 +240,24 @@ impl Emitter<'_> {
             Some(owner) if self.owner(owner).is_some() => {
                 self.then_place(place, Task::DoPut(statement, owner))
             }
-            _ => self.error(item.value.span, ErrorKind::OWNER_WANTED),
+            _ => self.no_owner(item.value.span, ErrorKind::OWNER_WANTED),
+        }
+    }
+
+    /// Notes that an owned object is wanted, unless the statement that gives the name has an error.
+    fn no_owner(&mut self, span: Span, kind: ErrorKind) {
+        if self.is_unknown(span) {
+            return self.skip();
+        }
+        self.error(span, kind)
+    }
+
+    /// Whether the statement that gives a name has an error.
+    fn is_unknown(&self, span: Span) -> bool {
+        let word = self.word(span);
+        match self.names.find(self.tree, word) {
+            Some(at) => matches!(self.names.get(at), Some(name) if name.is_unknown()),
+            None => false,
         }
     }
 
@@ -301,7 +318,7 @@ impl Emitter<'_> {
         self.check_changeable(&place);
         self.remove(&place, Removed::Below, statement.span);
         let handler = self.place_handler(statement, &place);
-        let code = self.code_register(&place, handler);
+        let code = self.code_unless_removed(&place, handler, true);
         let walk = self.walk(&place, true);
         self.code.act(Operation::Put, walk.register, register.0);
         self.code.end_others(walk.register);
@@ -338,7 +355,7 @@ impl Emitter<'_> {
             return self.type_error(place.span, ErrorKind::FREEZE_OF, place.value_type);
         };
         let Some(owner) = self.owner_named(name) else {
-            return self.error(name, ErrorKind::NEW_WANTED);
+            return self.no_owner(name, ErrorKind::NEW_WANTED);
         };
         let register = self.check_owner(name, owner, content, &place, ErrorKind::SHARES_ITSELF);
         self.check_changeable(&place);

@@ -518,7 +518,7 @@ impl Emitter<'_> {
             return MOST_DIGITS;
         };
         match expression.kind {
-            ExpressionKind::Place(steps) => self.digits_of_place(at, steps),
+            ExpressionKind::Place(_) => self.digits_of_place(at),
             ExpressionKind::Binary(BinaryOperator::Remainder, _, right) => {
                 self.digits_below(right)
             }
@@ -535,7 +535,7 @@ impl Emitter<'_> {
         }
     }
 
-    fn digits_of_place(&self, at: ExpressionAt, steps: Range) -> usize {
+    fn digits_of_place(&self, at: ExpressionAt) -> usize {
         if let Some(name) = self.plain_name(at) {
             if let Some(name) = self.names.get(name) {
                 if let Meaning::Number { digits, .. } = name.meaning {
@@ -543,10 +543,10 @@ impl Emitter<'_> {
                 }
             }
         }
-        match self.tree.steps(steps).last() {
-            Some(step) if self.word(step.span) == b"len".as_slice() => 10,
-            _ => MOST_DIGITS,
+        if self.is_length(at) {
+            return 10;
         }
+        MOST_DIGITS
     }
 
     /// Whether a number is known not to be negative.

@@ -19,5 +19,7 @@ mod walks;
 
 pub use emitter::{Emitter, EmitterMark};
 pub use lookups::body_of;
-pub use task::{End, Handler, Loop, Output, Sequence, Task, TextTarget, Turn, Value, Walk};
+pub use task::{
+    End, Handler, Loop, Output, PartEnd, Sequence, Task, TextTarget, Turn, Value, Walk,
+};
 pub use walks::Removed;

@@ -248,7 +248,8 @@ impl Emitter<'_> {
         };
         self.check_changeable(&place);
         let handler = self.lookup_handler(statement);
-        let code = self.code_register(&place, handler);
+        let removes = self.removes(body_of(&statement));
+        let code = self.code_unless_removed(&place, handler, removes);
         let register = self.code.take_held();
         let walk = self.walk(&place, false);
         self.remove(&place, Removed::Below, statement.span);
@@ -275,11 +276,11 @@ impl Emitter<'_> {
             return self.error(place.span, ErrorKind::NEVER_ABSENT);
         }
         let handler = self.lookup_handler(statement);
-        if self.is_number(&place) {
-            return self.look_up_number(statement, name, &place, handler);
-        }
         if is_box {
             self.enter_one(&mut place);
+        }
+        if self.is_number(&place) {
+            return self.look_up_number(statement, name, &place, handler);
         }
         self.look_up_place(statement, name, place, handler)
     }
@@ -287,11 +288,12 @@ impl Emitter<'_> {
     fn look_up_place(&mut self, statement: Statement, name: Span, place: Place, handler: Handler) {
         let mut place = place;
         let names = self.names.len();
-        self.keep_keys(&mut place, &[body_of(&statement)]);
+        self.keep_keys(&mut place, body_of(&statement));
         if self.is_flat {
             return self.look_up_flat(statement, name, &place, handler, names);
         }
-        let code = self.code_register(&place, handler);
+        let removes = self.removes(body_of(&statement));
+        let code = self.code_unless_removed(&place, handler, removes);
         let walk = self.walk(&place, false);
         self.bind_walk(name, &place, &walk);
         self.then(&[
@@ -479,7 +481,7 @@ impl Emitter<'_> {
         };
         let name = self.held_name(&held, &place);
         let names = self.names.len();
-        self.keep_keys(&mut place, &[body_of(&statement)]);
+        self.keep_keys(&mut place, body_of(&statement));
         let close = self.hold_place(statement, name, &place, code);
         self.then(&[Task::EndScope(names), close]);
         let inner = self.names.len();
@@ -517,7 +519,7 @@ impl Emitter<'_> {
         };
         let name = self.held_name(&held, &place);
         let names = self.names.len();
-        self.keep_keys(&mut place, &[body_of(&statement)]);
+        self.keep_keys(&mut place, body_of(&statement));
         let walk = self.walk(&place, true);
         self.close_noting(&walk, code);
         self.bind_place(name, place);
@@ -578,7 +580,7 @@ impl Emitter<'_> {
         };
         let handler = self.lookup_handler(statement);
         let names = self.names.len();
-        self.keep_keys(&mut place, &[body_of(&statement)]);
+        self.keep_keys(&mut place, body_of(&statement));
         self.bind_pushed(statement, &push, &place, handler, names)
     }
 
@@ -591,7 +593,8 @@ impl Emitter<'_> {
         handler: Handler,
         names: usize,
     ) {
-        let code = self.code_register(place, handler);
+        let removes = self.removes(body_of(&statement));
+        let code = self.code_unless_removed(place, handler, removes);
         let index = self.code.literal_held(0);
         let walk = self.walk(place, true);
         let register = self.push_at(push, &walk, index);

@@ -193,7 +193,7 @@ impl Emitter<'_> {
         let mut place = place;
         let names = self.names.len();
         self.then(&[Task::EndScope(names)]);
-        self.keep_keys(&mut place, &[body_of(&statement)]);
+        self.keep_keys(&mut place, body_of(&statement));
         let key = self.code.literal_held(0);
         let go = self.code.literal_held(0);
         self.find_first(&place, key, go);

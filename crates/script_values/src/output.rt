@@ -262,7 +262,9 @@ impl Emitter<'_> {
         let left = self.items_left(&target, items);
         self.then(&[
             Task::Items(left, Output::Added(target)),
-            Task::TextEnd(walk, target, handler),
+            Task::TextEnd(walk, target),
+            Task::HandleIf(code, handler),
+            Task::Release(code),
         ])
     }
 
@@ -303,11 +305,11 @@ impl Emitter<'_> {
         }
     }
 
-    pub fn end_text(&mut self, walk: &Walk, target: &TextTarget, handler: Handler) {
+    pub fn end_text(&mut self, walk: &Walk, target: &TextTarget) {
         self.code
             .usage
             .release_all(&[target.temporary, target.text]);
-        self.close_coded(walk, handler, target.code)
+        self.close_noting(walk, target.code)
     }
 
     /// Adds the bytes of the text at the last place to another text.

@@ -89,7 +89,7 @@ impl Emitter<'_> {
         match task {
             Task::DoText(statement) => self.begin_text(statement),
             Task::TextCopy(target, at) => self.copy_text(&target, at),
-            Task::TextEnd(walk, target, handler) => self.end_text(&walk, &target, handler),
+            Task::TextEnd(walk, target) => self.end_text(&walk, &target),
             other => return self.perform_name(other),
         }
         true
@@ -168,6 +168,8 @@ impl Emitter<'_> {
             Task::At(span) => {
                 self.code.span = span;
             }
+            Task::GuardRest(running) => self.guard_rest(running),
+            Task::EndRest => self.end_rest(),
             _ => return false,
         }
         true

@@ -289,7 +289,7 @@ impl Emitter<'_> {
                 resolving.place.root = Root::Element(at, key);
                 return 1;
             }
-            if object.kind != ObjectKind::Family && self.word(step.span) == b"len".as_slice() {
+            if object.kind != ObjectKind::Family && self.begins_with_length(steps) {
                 resolving.place.root = Root::Object(at);
                 resolving.place.value_type = TypeAt::INT;
                 resolving.place.is_length = true;
@@ -424,12 +424,17 @@ impl Emitter<'_> {
         let ExpressionKind::Place(steps) = expression.kind else {
             return None;
         };
-        let word = self.word(expression.span);
+        self.type_after(expression.span, self.tree.steps(steps))
+    }
+
+    /// The type of the place that a name and these steps lead to.
+    fn type_after(&self, name: Span, steps: &[Step]) -> Option<TypeAt> {
+        let word = self.word(name);
         let (mut found, skipped) = match self.names.find(self.tree, word) {
             Some(name) => (self.type_of_name(name)?, 0),
-            None => self.type_of_object(word)?,
+            None => self.type_of_object(word, steps)?,
         };
-        for (number, step) in self.tree.steps(steps).iter().enumerate() {
+        for (number, step) in steps.iter().enumerate() {
             if number >= skipped {
                 found = self.type_of_step(found, step)?;
             }
@@ -446,14 +451,45 @@ impl Emitter<'_> {
         }
     }
 
-    fn type_of_object(&self, word: &[u8]) -> Option<(TypeAt, usize)> {
+    /// The type that a place begins with at an object, and how many of its steps that takes.
+    fn type_of_object(&self, word: &[u8], steps: &[Step]) -> Option<(TypeAt, usize)> {
         let at = self.program.object_named(self.tree, word)?;
         let object = self.program.object(at)?;
-        let skipped = match object.kind {
-            ObjectKind::Single | ObjectKind::Unique => 0,
-            ObjectKind::Array(_) | ObjectKind::Family => 1,
+        match object.kind {
+            ObjectKind::Single | ObjectKind::Unique => Some((object.value_type, 0)),
+            ObjectKind::Array(_) if self.begins_with_length(steps) => {
+                Some((TypeAt::INT, steps.len()))
+            }
+            ObjectKind::Array(_) | ObjectKind::Family => Some((object.value_type, 1)),
+        }
+    }
+
+    /// Whether the first of these steps has the word of a length.
+    fn begins_with_length(&self, steps: &[Step]) -> bool {
+        match steps.first() {
+            Some(step) => self.word(step.span) == b"len".as_slice(),
+            None => false,
+        }
+    }
+
+    /// Whether an expression is the number of the items of a container, a text or an array.
+    pub fn is_length(&self, at: ExpressionAt) -> bool {
+        let Some(expression) = self.tree.expression(at) else {
+            return false;
         };
-        Some((object.value_type, skipped))
+        let Some(steps) = self.steps_of(at, 0) else {
+            return false;
+        };
+        let [before @ .., last] = self.tree.steps(steps) else {
+            return false;
+        };
+        if self.word(last.span) != b"len".as_slice() {
+            return false;
+        }
+        match self.type_after(expression.span, before) {
+            Some(found) => !matches!(self.content_shape(found), Shape::Struct(_)),
+            None => false,
+        }
     }
 
     fn type_of_step(&self, from: TypeAt, step: &Step) -> Option<TypeAt> {

@@ -20,10 +20,11 @@ impl Emitter<'_> {
         let steps = tree.steps(steps);
         let found = self.deleted_object(span);
         if let Some((object, ObjectKind::Array(_))) = found {
-            if steps.is_empty() {
-                return self.delete_object(object, None, span);
+            match steps.len() {
+                0 => return self.delete_object(object, None, span),
+                1 => return self.error(span, ErrorKind::ARRAY_DELETED_WHOLE),
+                _ => {}
             }
-            return self.error(span, ErrorKind::ARRAY_DELETED_WHOLE);
         }
         let most_steps = match found {
             Some((_, ObjectKind::Family)) => 1,

@@ -169,6 +169,9 @@ pub enum Task {
     HandleIf(Register, Handler),
     SetBase(usize),
     At(Span),
+    /// What is left of the part runs only if the register isn't 0.
+    GuardRest(Register),
+    EndRest,
     // expressions
     Evaluate(ExpressionAt, Option<Register>),
     Push(Value),
@@ -217,7 +220,7 @@ pub enum Task {
     DoPut(Statement, usize),
     DoText(Statement),
     TextCopy(TextTarget, ExpressionAt),
-    TextEnd(Walk, TextTarget, Handler),
+    TextEnd(Walk, TextTarget),
     Items(Range, Output),
     Digits(ExpressionAt, Output),
     Padded(usize, Output),
@@ -231,4 +234,31 @@ pub enum Task {
     DoFreeze(Statement),
     DoShare(Statement),
     DoReturn(Statement),
+}
+
+/// How a task ends a part.
+#[derive(Clone, Copy, PartialEq, Eq)]
+pub enum PartEnd {
+    /// It begins the else part.
+    Success,
+    /// It ends the part.
+    Part,
+    /// It ends the statement, or what is compiled with it.
+    Whole,
+}
+
+impl Task {
+    /// How the task ends the innermost part, if it does.
+    pub fn end_of_part(&self) -> Option<PartEnd> {
+        match self {
+            Task::Else | Task::ElseOne(_) => Some(PartEnd::Success),
+            Task::EndPart | Task::CloseWalk(..) | Task::CloseNoting(..) | Task::TextEnd(..) => {
+                Some(PartEnd::Part)
+            }
+            Task::EndStatement | Task::EndChoice | Task::EndNest | Task::EndLoop => {
+                Some(PartEnd::Whole)
+            }
+            _ => None,
+        }
+    }
 }

@@ -355,24 +355,43 @@ impl Emitter<'_> {
         Some(self.code.literal_held(0))
     }
 
-    /// Ends the parts of a walk. If a step fails, the handler runs: in the else part if there is
-    /// one alone, and otherwise after all of them.
+    /// Like `code_register`. If the parts of the walk may remove what an else part uses, there is no
+    /// register, and the else part is done in each of them.
+    pub fn code_unless_removed(
+        &mut self,
+        place: &Place,
+        handler: Handler,
+        removes: bool,
+    ) -> Option<Register> {
+        match handler {
+            Handler::Part(_) if removes => None,
+            _ => self.code_register(place, handler),
+        }
+    }
+
+    /// Ends the parts of a walk. If a step fails, the handler runs: after all of them if the code is
+    /// in a register, and otherwise in each else part.
     pub fn close_handling(&mut self, walk: &Walk, handler: Handler, code: Option<Register>) {
         if handler.is_nothing() {
             return self.close_walk(walk);
         }
         match code {
             Some(code) => self.close_coded(walk, handler, code),
-            None if walk.count == 0 => {
-                self.release_walk(walk);
-            }
-            None => {
-                self.code.begin_else();
-                if let Some(register) = walk.held {
-                    self.then(&[Task::Release(register)]);
-                }
-                self.then(&[Task::Handle(handler, walk.opened[0]), Task::EndPart])
-            }
+            None => self.handle_each(walk, handler),
+        }
+    }
+
+    /// Ends the parts of a walk, each with the handler in its else part.
+    fn handle_each(&mut self, walk: &Walk, handler: Handler) {
+        if let Some(register) = walk.held {
+            self.then(&[Task::Release(register)]);
+        }
+        for register in walk.opened.iter().take(walk.count) {
+            self.then(&[
+                Task::Else,
+                Task::Handle(handler, *register),
+                Task::EndPart,
+            ]);
         }
     }
 
