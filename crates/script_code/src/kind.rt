@@ -644,6 +644,12 @@ impl ErrorKind {
         class: ErrorClass::Depth,
     };
 
+    pub const NESTED: ErrorKind = ErrorKind {
+        message: "more than 1,000 blocks are nested here",
+        hint: "end some of them before",
+        class: ErrorClass::Size,
+    };
+
     pub const OUT_OF_REGISTERS: ErrorKind = ErrorKind {
         message: "more than 16 numbers and references are alive here",
         hint: "let some go by closing the block that they are in",

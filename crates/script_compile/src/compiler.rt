@@ -183,7 +183,9 @@ impl<'t> Compiler<'t> {
     /// Reads the program's declarations, and compiles its statements.
     pub fn run(&mut self) {
         self.emitter.declare();
-        self.do_tasks();
+        if !self.emitter.passes_limit() {
+            self.do_tasks();
+        }
         self.warn_unused()
     }
 
@@ -232,6 +234,11 @@ impl<'t> Compiler<'t> {
             return;
         }
         self.emitter.report(error);
+        if is_first {
+            // such an error is told alone
+            self.emitter.tasks.clear();
+            return;
+        }
         self.skip_statement();
     }
 
@@ -380,7 +387,9 @@ impl<'t> Compiler<'t> {
     }
 
     pub fn end_statement(&mut self) {
-        let _ = self.statements.pop();
+        if let Some(ended) = self.statements.pop() {
+            self.emitter.note_made(&ended.statement);
+        }
         self.emitter.code.usage.tidy();
     }
 

@@ -2,7 +2,7 @@
 
 use crate::entry::{Failure, Wrong, compile};
 use client_code::TypeTable;
-use script_code::{Compiled, Error, Types, Warning};
+use script_code::{Compiled, Error, Warning};
 use script_syntax::{Span, Tree, parse};
 use std::alloc::{AllocError, Global};
 use std::fmt::Write;
@@ -131,7 +131,7 @@ fn error_lines(
 ) -> Result<String, AllocError> {
     let mut lines = String::new(alloc);
     for error in wrong.errors.as_slice() {
-        write_error(&mut lines, file, text, error, &wrong.types)?;
+        write_error(&mut lines, file, text, error, wrong)?;
     }
     printable(alloc, lines.as_str())
 }
@@ -141,13 +141,13 @@ fn write_error(
     file: &str,
     text: &[u8],
     error: &Error,
-    types: &Types,
+    wrong: &Wrong,
 ) -> Result<(), AllocError> {
     write_position(lines, file, error.span)?;
-    let message = error.message(text, types);
+    let message = error.message(text, &wrong.types);
     write!(lines, "error: {message}\n")?;
     write_source(lines, text, error.span)?;
-    match error.hint(text, types) {
+    match error.hint(text, &wrong.types, wrong.alive.as_slice()) {
         Some(hint) => write!(lines, "hint: {hint}\n"),
         None => Ok(()),
     }

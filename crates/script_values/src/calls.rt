@@ -7,8 +7,7 @@ use script_code::{
     append,
 };
 use script_syntax::{
-    Block, ExpressionAt, ExpressionKind, Field, Range, Span, Statement, StatementKind, Step,
-    StepKind, Tree, Value, ValueKind,
+    Block, ExpressionAt, ExpressionKind, Field, Range, Span, Statement, StatementKind, StepKind, Tree, Value, ValueKind,
 };
 
 /// How many blocks a search visits.
@@ -405,11 +404,11 @@ fn takes_away(tree: &Tree<'_>, value: Value) -> bool {
     let ValueKind::Expression(at) = value.kind else {
         return matches!(value.kind, ValueKind::Take(_));
     };
-    match place_steps(tree, at) {
-        Some(steps) => matches!(
-            tree.steps(steps).last(),
-            Some(Step { kind: StepKind::Method(_), .. })
-        ),
+    let Some(steps) = place_steps(tree, at) else {
+        return false;
+    };
+    match tree.steps(steps).last() {
+        Some(step) => matches!(step.kind, StepKind::Method(_)),
         None => false,
     }
 }

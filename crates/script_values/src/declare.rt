@@ -19,21 +19,77 @@ const LONGEST_FAMILY: usize = 42;
 /// How many blocks the search of a `fail` part visits.
 const MOST_BLOCKS: usize = 1_000_000;
 
+/// How many blocks may be in each other. Names are looked up one by one, so deeper ones would be slow.
+const MOST_NESTED: usize = 1_000;
+
 impl Emitter<'_> {
     /// Reads all declarations, and reports their errors.
     pub fn declare(&mut self) {
         let tree = self.tree;
+        self.check_nesting();
         for declaration in tree.declarations() {
             self.declare_name(*declaration);
         }
         self.find_values();
         for declaration in tree.declarations() {
             self.declare_fields(*declaration);
+            self.report_noted();
         }
         self.check_structs();
         for declaration in tree.declarations() {
             self.declare_object(*declaration);
             self.report_noted();
+        }
+    }
+
+    /// Reports blocks that are too deep in each other.
+    fn check_nesting(&mut self) {
+        let mut waiting = Vec::new(self.alloc);
+        self.add_outermost(&mut waiting);
+        for _ in 0..MOST_BLOCKS {
+            let Some(nested) = waiting.pop() else {
+                return;
+            };
+            if nested.depth > MOST_NESTED {
+                return self.report_nested(nested.block);
+            }
+            self.add_nested(&mut waiting, nested.block.statements, nested.depth);
+            self.add_nested(&mut waiting, nested.block.following, nested.depth);
+        }
+    }
+
+    /// Adds the outermost blocks of the program.
+    fn add_outermost(&mut self, waiting: &mut Vec<Nested>) {
+        let tree = self.tree;
+        add_nested_block(waiting, tree.body(), 1, &mut self.code.trouble);
+        for declaration in tree.declarations() {
+            match declaration.kind {
+                DeclarationKind::Fail(block) | DeclarationKind::Function { body: block, .. } => {
+                    add_nested_block(waiting, block, 1, &mut self.code.trouble)
+                }
+                _ => {}
+            }
+        }
+    }
+
+    /// Adds the blocks of statements at this depth.
+    fn add_nested(&mut self, waiting: &mut Vec<Nested>, range: Range, depth: usize) {
+        let tree = self.tree;
+        let depth = depth.saturating_add(1);
+        for statement in tree.statements(range) {
+            if let Some(body) = statement.body {
+                add_nested_block(waiting, body, depth, &mut self.code.trouble);
+            }
+            if let Some(part) = statement.otherwise {
+                add_nested_block(waiting, part.block, depth, &mut self.code.trouble);
+            }
+        }
+    }
+
+    fn report_nested(&mut self, block: Block) {
+        let tree = self.tree;
+        if let Some(statement) = tree.statements(block.statements).first() {
+            self.report_at(statement.span, ErrorKind::NESTED)
         }
     }
 
@@ -431,6 +487,17 @@ impl Emitter<'_> {
 struct Inner {
     block: Block,
     is_in_loop: bool,
+}
+
+/// A block that is visited, and how many blocks it is in, with itself.
+#[derive(Clone, Copy)]
+struct Nested {
+    block: Block,
+    depth: usize,
+}
+
+fn add_nested_block(waiting: &mut Vec<Nested>, block: Block, depth: usize, trouble: &mut Trouble) {
+    append(waiting, Nested { block, depth }, trouble);
 }
 
 fn add(waiting: &mut Vec<Inner>, block: Block, is_in_loop: bool, trouble: &mut Trouble) {

@@ -1,11 +1,14 @@
 //! The state of what is emitted: the code so far, the names, and the tasks that wait.
 
 use crate::task::{Task, Value};
+use client_code::MAX_TYPES;
 use script_code::{
     About, Code, CodeMark, Error, ErrorKind, Folded, MOST_DEPTH, Meaning, Names, Place, Problem,
     Program, Register, TypeAt, Warning, WarningKind, Way, append,
 };
-use script_syntax::{ExpressionAt, Span, Tree, Type};
+use script_syntax::{
+    ExpressionAt, Span, Statement, StatementKind, Step, StepKind, Tree, Type,
+};
 use std::alloc::Global;
 
 /// How much is emitted. Going back to it needs no copy.
@@ -43,6 +46,8 @@ pub struct Emitter<'t> {
     pub alive: Vec<Span>,
     pub warnings: Vec<Warning>,
     pub tasks: Vec<Task>,
+    /// The places that the statements just before this one set.
+    made: Vec<ExpressionAt>,
 }
 
 impl<'t> Emitter<'t> {
@@ -63,6 +68,7 @@ impl<'t> Emitter<'t> {
             alive: Vec::new(alloc),
             warnings: Vec::new(alloc),
             tasks: Vec::new(alloc),
+            made: Vec::new(alloc),
         }
     }
 }
@@ -189,17 +195,26 @@ impl<'t> Emitter<'t> {
         }
     }
 
-    /// Adds an error. One about a limit counts only if it is the first.
+    /// Adds an error. One about a limit counts only if it is the first, and then alone, since the
+    /// statement that passes the limit isn't compiled.
     pub fn report(&mut self, error: Error) {
         if error.kind.is_limit() && !self.errors.is_empty() {
             return;
         }
         for found in self.errors.as_slice() {
-            if found.span.start == error.span.start {
+            if found.kind.is_limit() || found.span.start == error.span.start {
                 return;
             }
         }
         append(&mut self.errors, error, &mut self.code.trouble)
+    }
+
+    /// Whether an error about a limit was reported.
+    pub fn passes_limit(&self) -> bool {
+        match self.errors.as_slice() {
+            [error] => error.kind.is_limit(),
+            _ => false,
+        }
     }
 
     pub fn warn(&mut self, span: Span, kind: WarningKind) {
@@ -213,6 +228,62 @@ impl<'t> Emitter<'t> {
             Warning { span, kind },
             &mut self.code.trouble,
         )
+    }
+
+    /// Notes what a statement that ends has made. Only what prints lets that stay known.
+    pub fn note_made(&mut self, statement: &Statement) {
+        match statement.kind {
+            StatementKind::Set { place, .. } => {
+                append(&mut self.made, place, &mut self.code.trouble)
+            }
+            StatementKind::Print { .. } => {}
+            _ => self.forget_made(),
+        }
+    }
+
+    /// What was made may be gone.
+    pub fn forget_made(&mut self) {
+        self.made.clear();
+    }
+
+    /// Whether a statement just before this one made a place.
+    pub fn was_made(&self, at: ExpressionAt) -> bool {
+        for made in self.made.as_slice() {
+            if self.has_same_words(*made, at) {
+                return true;
+            }
+        }
+        false
+    }
+
+    /// Whether two places are written with the same names and known keys.
+    fn has_same_words(&self, one: ExpressionAt, two: ExpressionAt) -> bool {
+        let (Some(left), Some(right)) = (self.steps_of(one, 0), self.steps_of(two, 0)) else {
+            return false;
+        };
+        let (left, right) = (self.tree.steps(left), self.tree.steps(right));
+        if self.word(self.span_of(one)) != self.word(self.span_of(two))
+            || left.len() != right.len()
+        {
+            return false;
+        }
+        for (one, two) in left.iter().zip(right) {
+            if !self.is_same_step(one, two) {
+                return false;
+            }
+        }
+        true
+    }
+
+    fn is_same_step(&self, one: &Step, two: &Step) -> bool {
+        match (one.kind, two.kind) {
+            (StepKind::Field, StepKind::Field) => self.word(one.span) == self.word(two.span),
+            (StepKind::Index(one), StepKind::Index(two)) => match self.known_number(one) {
+                Some(key) => self.known_number(two) == Some(key),
+                None => false,
+            },
+            _ => false,
+        }
     }
 
     // Names and values
@@ -237,6 +308,10 @@ impl<'t> Emitter<'t> {
     /// The type that is written. `Err` with the name of a struct that isn't declared.
     pub fn written_type(&mut self, written: Type) -> Result<TypeAt, Span> {
         let tree = self.tree;
+        if tree.containers(written.containers).len() >= MAX_TYPES {
+            self.error(written.span, ErrorKind::TYPES);
+            return Ok(TypeAt::INT);
+        }
         self.program
             .types
             .written(tree, written, &mut self.code.trouble)

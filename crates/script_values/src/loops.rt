@@ -16,6 +16,7 @@ const MOST_INPUT: i32 = 1 << 20;
 
 impl Emitter<'_> {
     pub fn begin_for(&mut self, statement: Statement) {
+        self.forget_made();
         let StatementKind::For {
             key,
             source,
@@ -223,6 +224,7 @@ impl Emitter<'_> {
     }
 
     pub fn begin_while(&mut self, statement: Statement) {
+        self.forget_made();
         let StatementKind::While { condition, max } = statement.kind else {
             return;
         };

@@ -203,7 +203,7 @@ impl Emitter<'_> {
 
     pub fn write_text(&mut self, at: ExpressionAt) {
         let place = self.pop_place();
-        if self.fallible(&place) > 0 {
+        if self.fallible(&place) > 0 && !self.was_made(at) {
             let span = self.span_of(at);
             self.warn(span, WarningKind::AbsentText);
         }

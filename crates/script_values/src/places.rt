@@ -480,12 +480,14 @@ impl Emitter<'_> {
         let Some(steps) = self.steps_of(at, 0) else {
             return false;
         };
-        let [before @ .., last] = self.tree.steps(steps) else {
-            return false;
-        };
-        if self.word(last.span) != b"len".as_slice() {
-            return false;
+        let steps = self.tree.steps(steps);
+        match steps.last() {
+            Some(step) if self.word(step.span) == b"len".as_slice() => {}
+            _ => return false,
         }
+        let before = steps
+            .get(..steps.len().saturating_sub(1))
+            .unwrap_or_default();
         match self.type_after(expression.span, before) {
             Some(found) => !matches!(self.content_shape(found), Shape::Struct(_)),
             None => false,

@@ -386,12 +386,11 @@ impl Emitter<'_> {
         if let Some(register) = walk.held {
             self.then(&[Task::Release(register)]);
         }
-        for register in walk.opened.iter().take(walk.count) {
-            self.then(&[
-                Task::Else,
-                Task::Handle(handler, *register),
-                Task::EndPart,
-            ]);
+        for at in 0..walk.count {
+            if at < DEPTH {
+                let code = walk.opened[at];
+                self.then(&[Task::Else, Task::Handle(handler, code), Task::EndPart]);
+            }
         }
     }
 

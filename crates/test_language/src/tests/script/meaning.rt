@@ -22,7 +22,7 @@ fn report(alloc: Global, program: &str) -> Result<String, AllocError> {
             for error in wrong.errors.as_slice() {
                 let (line, column) = (error.span.line, error.span.column);
                 let message = error.message(text, &wrong.types);
-                match error.hint(text, &wrong.types) {
+                match error.hint(text, &wrong.types, &[]) {
                     Some(hint) => writeln!(lines, "{line}:{column}: {message} / {hint}")?,
                     None => writeln!(lines, "{line}:{column}: {message} / -")?,
                 }
