@@ -7,7 +7,8 @@ use script_code::{
     append,
 };
 use script_syntax::{
-    Block, ExpressionAt, ExpressionKind, Field, Range, Span, Statement, StatementKind, StepKind, Tree, Value, ValueKind,
+    Block, ExpressionAt, ExpressionKind, Field, Range, Span, Statement, StatementKind, StepKind,
+    Tree, Value, ValueKind,
 };
 
 /// How many blocks a search visits.
@@ -416,7 +417,8 @@ fn takes_away(tree: &Tree<'_>, value: Value) -> bool {
 /// Whether a value is a name alone.
 fn is_name(tree: &Tree<'_>, value: Value) -> bool {
     match value.kind {
-        ValueKind::Expression(at) => matches!(place_steps(tree, at), Some(steps) if steps.is_empty()),
+        ValueKind::Expression(at) =>
+            matches!(place_steps(tree, at), Some(steps) if steps.is_empty()),
         _ => false,
     }
 }

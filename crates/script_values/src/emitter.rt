@@ -6,9 +6,7 @@ use script_code::{
     About, Code, CodeMark, Error, ErrorKind, Folded, MOST_DEPTH, Meaning, Names, Place, Problem,
     Program, Register, TypeAt, Warning, WarningKind, Way, append,
 };
-use script_syntax::{
-    ExpressionAt, Span, Statement, StatementKind, Step, StepKind, Tree, Type,
-};
+use script_syntax::{ExpressionAt, Span, Statement, StatementKind, Step, StepKind, Tree, Type};
 use std::alloc::Global;
 
 /// How much is emitted. Going back to it needs no copy.

@@ -426,13 +426,12 @@ impl Emitter<'_> {
         self.then_place(first.place, Task::Hold(statement, 0, Some(code)))
     }
 
-    /// The place of a `use` with this number, and the number of the places.
-    fn held_place(&self, statement: &Statement, number: usize) -> Option<(Held, usize)> {
+    /// The place of a `use` with this number, if it has so many.
+    fn held_place(&self, statement: &Statement, number: usize) -> Option<Held> {
         let StatementKind::Use(held) = statement.kind else {
             return None;
         };
-        let places = self.tree.held(held);
-        Some((places.get(number).copied()?, places.len()))
+        self.tree.held(held).get(number).copied()
     }
 
     /// The name of a place that a `use` holds.
@@ -462,7 +461,7 @@ impl Emitter<'_> {
     ) -> [Task; 2] {
         let next = number.saturating_add(1);
         match self.held_place(statement, next) {
-            Some((held, _)) => [
+            Some(held) => [
                 Task::Place(held.place, 0),
                 Task::Hold(*statement, next, code),
             ],
@@ -473,15 +472,21 @@ impl Emitter<'_> {
         }
     }
 
+    /// The last place, which is that of a `use` with this number, and its name. Its keys are kept.
+    fn begin_hold(&mut self, statement: &Statement, number: usize) -> Option<(Span, Place)> {
+        let mut place = self.pop_place();
+        let held = self.held_place(statement, number)?;
+        let name = self.held_name(&held, &place);
+        self.keep_keys(&mut place, body_of(statement));
+        Some((name, place))
+    }
+
     /// Keeps the last place for a `use`, and continues with the next one.
     pub fn hold(&mut self, statement: Statement, number: usize, code: Option<Register>) {
-        let mut place = self.pop_place();
-        let Some((held, _)) = self.held_place(&statement, number) else {
+        let names = self.names.len();
+        let Some((name, place)) = self.begin_hold(&statement, number) else {
             return;
         };
-        let name = self.held_name(&held, &place);
-        let names = self.names.len();
-        self.keep_keys(&mut place, body_of(&statement));
         let close = self.hold_place(statement, name, &place, code);
         self.then(&[Task::EndScope(names), close]);
         let inner = self.names.len();
@@ -513,13 +518,10 @@ impl Emitter<'_> {
 
     /// Finds or makes the last place, and binds it without holding it.
     pub fn hold_flat(&mut self, statement: Statement, number: usize, code: Register) {
-        let mut place = self.pop_place();
-        let Some((held, _)) = self.held_place(&statement, number) else {
+        let names = self.names.len();
+        let Some((name, place)) = self.begin_hold(&statement, number) else {
             return;
         };
-        let name = self.held_name(&held, &place);
-        let names = self.names.len();
-        self.keep_keys(&mut place, body_of(&statement));
         let walk = self.walk(&place, true);
         self.close_noting(&walk, code);
         self.bind_place(name, place);
@@ -532,7 +534,7 @@ impl Emitter<'_> {
     fn after_flat(&mut self, statement: Statement, number: usize, code: Register) {
         let next = number.saturating_add(1);
         match self.held_place(&statement, next) {
-            Some((held, _)) => {
+            Some(held) => {
                 let hold = Task::HoldFlat(statement, next, code);
                 self.then_place(held.place, hold)
             }

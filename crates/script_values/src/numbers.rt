@@ -452,52 +452,46 @@ impl Emitter<'_> {
             sign: self.code.literal_held(0),
             size: self.code.literal_held(0),
         };
-        self.begin_columns(&measure, number);
+        self.begin_columns(measure, number);
         for digits in 1..=width.min(18) {
-            self.count_column(&measure, digits);
+            self.count_column(measure, digits);
         }
-        let Measure {
-            zero,
-            one,
-            sign,
-            size,
-            ..
-        } = measure;
-        self.code.number(one, as_number(width).wrapping_add(1));
-        self.code.compute(Operation::Less, fits, spaces, one);
-        self.code.number(sign, as_number(width));
-        self.code.compute(Operation::Sub, spaces, sign, spaces);
-        self.code.usage.release_all(&[zero, one, sign, size]);
+        self.compare_columns(measure, width, fits);
+        self.code
+            .usage
+            .release_all(&[measure.zero, measure.one, measure.sign, measure.size]);
+    }
+
+    /// Sets a register to whether the columns are at most this many, and the columns to those left.
+    fn compare_columns(&mut self, measure: Measure, width: usize, fits: Register) {
+        let width = as_number(width);
+        let (columns, other) = (measure.columns, measure.one);
+        self.code.number(other, width.wrapping_add(1));
+        self.code.compute(Operation::Less, fits, columns, other);
+        self.code.number(other, width);
+        self.code.compute(Operation::Sub, columns, other, columns)
     }
 
     /// Counts the column of the sign and the first digit, and finds a number's absolute value.
-    fn begin_columns(&mut self, measure: &Measure, number: Register) {
-        let Measure {
-            columns,
-            zero,
-            one,
-            sign,
-            size,
-        } = *measure;
-        self.code.compute(Operation::Less, columns, number, zero);
+    fn begin_columns(&mut self, measure: Measure, number: Register) {
+        let (columns, sign, one) = (measure.columns, measure.sign, measure.one);
+        self.code
+            .compute(Operation::Less, columns, number, measure.zero);
         self.code.compute(Operation::Add, sign, columns, columns);
         self.code.compute(Operation::Sub, sign, one, sign);
-        self.code.compute(Operation::Mul, size, number, sign);
+        self.code
+            .compute(Operation::Mul, measure.size, number, sign);
         self.code.compute(Operation::Add, columns, columns, one)
     }
 
     /// Counts a column more if a number has more than this many digits.
-    fn count_column(&mut self, measure: &Measure, digits: usize) {
-        let Measure {
-            columns,
-            zero,
-            one,
-            sign,
-            size,
-        } = *measure;
-        self.code.number(one, power_of_ten(digits));
-        self.code.compute(Operation::Less, sign, size, one);
-        self.code.compute(Operation::Equal, sign, sign, zero);
+    fn count_column(&mut self, measure: Measure, digits: usize) {
+        let (columns, sign, power) = (measure.columns, measure.sign, measure.one);
+        self.code.number(power, power_of_ten(digits));
+        self.code
+            .compute(Operation::Less, sign, measure.size, power);
+        self.code
+            .compute(Operation::Equal, sign, sign, measure.zero);
         self.code.compute(Operation::Add, columns, columns, sign)
     }
 }

@@ -52,7 +52,7 @@ fn meanings_are_checked(rt: HostRuntime) -> Result<(), Fail> {
 }
 
 /// Programs with an error in a declaration or a name, and its report.
-static WRONG_NAMES: [(&str, &str); 27] = [
+static WRONG_NAMES: [(&str, &str); 28] = [
     (
         "fail { stop }\nfail { stop }",
         "2:1: there is a `fail` part already / -\n",
@@ -154,6 +154,10 @@ static WRONG_NAMES: [(&str, &str); 27] = [
     (
         "object a[3]: int\nprint a ?? 0",
         "2:7: `a` is an array: it wants a number / write `..[n]`\n",
+    ),
+    (
+        "object o: list<list<list<list<list<list<list<list<list<list<list<list<list<list<list<list<list<list<list<list<list<list<list<list<list<list<list<list<list<list<list<list<int>>>>>>>>>>>>>>>>>>>>>>>>>>>>>>>>",
+        "1:11: more than 32 types are needed, with those of the image / -\n",
     ),
 ];
 
@@ -258,7 +262,7 @@ static WRONG_EXPRESSIONS: [(&str, &str); 27] = [
 ];
 
 /// Programs with an error in a statement or a lookup, and its report.
-static WRONG_STATEMENTS: [(&str, &str); 27] = [
+static WRONG_STATEMENTS: [(&str, &str); 28] = [
     (
         "return 1",
         "1:1: `return` stands in no function / the program is left by `stop`\n",
@@ -357,6 +361,10 @@ static WRONG_STATEMENTS: [(&str, &str); 27] = [
     (
         "object s: shared<int>\ns = 1",
         "2:3: shared<int> isn't set / write `freeze .. = ..` or `share .. = ..`\n",
+    ),
+    (
+        "object s: shared<int>\nobject o: own<int>\nfail { stop }\nlet n = new Q\nfreeze s = n\no = n\nprint z",
+        "4:13: there is no type `Q` / -\n7:7: there is no `z` here / -\n",
     ),
 ];
 

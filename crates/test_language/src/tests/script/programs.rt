@@ -558,3 +558,76 @@ for b in input max 100_000 {
 print total ?? 0, " words, ", words.len ?? 0, " different:"
 for _hash, w in words max 10_000 { print w.times:4, " ", w.name }
 "#;
+
+pub const LENGTHS: &str = r#"# Lengths of arrays, and a field with that name.
+object texts[3]: text
+object lists[4]: list<int>
+struct Plank { len: int }
+object plank: Plank
+fail { stop }
+
+print texts.len, " ", lists.len, "."
+write texts.len
+print
+plank.len = 123_456_789_012
+if let p = plank { print p.len, "." }
+"#;
+
+pub const STOPS_IN_SUM: &str = r#"# A function in an expression stops the program.
+object seen: list<int>
+fail { print "no room"; stop }
+fn f(n) -> int { seen.push(n); if n == 3 { print "stop"; stop } return n }
+
+let x = f(1) + f(2)
+print x
+if f(0) && f(3) { print "both" }
+let y = 10 + f(2)
+write y, " ", f(3) + y, "not here"
+print "nor here"
+"#;
+
+pub const STOPS_IN_LOOP: &str =
+    r#"# The condition of a loop stops the program, after a turn was left.
+fn go(n) -> int { if n > 1 { stop } return 1 }
+
+let i = 0
+while go(i) max 9 {
+    i += 1
+    if i == 1 { continue }
+    print i
+} else { print "cut" }
+print "not here"
+"#;
+
+pub const KEPT: &str = r#"# What an else part still owns, numbers in cells, and keys in arrays.
+struct Node { value: int }
+object lists: list<list<int>>
+object queue: list<own<Node>>
+object one: own<Node>
+object two: own<Node>
+object cell: own<int>
+object maps[2]: map<int>
+fail { print "no room"; stop }
+
+let n = new Node
+n.value = 7
+if let l = lists[0] { one = n; print l.len } else { two = n; print "none" }
+if let t = two { print t.value }
+lists.push()
+let m = new Node
+m.value = 8
+if let l = lists[0] { one = m; print l.len } else { two = m; print "none" }
+if let o = one { print o.value }
+let k = new Node
+k.value = 9
+queue[5] = k else { two = k }
+if let t = two { print t.value }
+let c = new int
+c += 5
+cell = c
+if let x = cell { x += 1; print x }
+if let x = cell { print x }
+maps[1][2] = 3
+delete maps[1][2]
+print maps[1].len ?? -1, "."
+"#;

@@ -26,7 +26,7 @@ fn lines_are_shown(rt: HostRuntime) -> Result<(), Fail> {
 }
 
 /// Programs, and what is reported of them.
-static REPORTS: [(&str, &str); 6] = [
+static REPORTS: [(&str, &str); 7] = [
     ("print 1", ""),
     (
         "let count = 2\nprint cuont\nprint count, other\n",
@@ -47,5 +47,9 @@ static REPORTS: [(&str, &str); 6] = [
     (
         "let x = 1",
         "p.lez:1:5: warning: `x` isn't used\nlet x = 1\n    ^\nhint: if it isn't wanted, let its name begin with `_`\n",
+    ),
+    (
+        "object x: own<int> fail { stop }\nlet a = new int\nlet b = new int\nlet c = new int\nlet d = new int\nlet e = new int\nlet f = new int\nlet g = new int\nlet h = new int\nlet i = new int\nx = a x = b x = c x = d x = e x = f x = g x = h x = i\nprint y",
+        "p.lez:10:1: error: more than 8 parts would be open here\nlet i = new int\n^^^\nhint: end one of these before: read a number with `??`, or do this behind it, under a flag; open: `let` (line 2), `let` (line 3), `let` (line 4), `let` (line 5), `let` (line 6), `let` (line 7), `let` (line 8), `let` (line 9)\n",
     ),
 ];

@@ -105,7 +105,7 @@ pub static RUNS: [Run; 15] = [
 ];
 
 /// More runs, with other groups.
-pub static MORE_RUNS: [Run; 10] = [
+pub static MORE_RUNS: [Run; 13] = [
     Run {
         image: "shop",
         input: "",
@@ -165,5 +165,27 @@ pub static MORE_RUNS: [Run; 10] = [
         input: "+3 low\n+1 high\n+2 mid\n+1 second\n-\n-\n-\n+0 now\n-\n-\n-\n",
         programs: &[WAITING],
         printed: "1 high\n1 second\n2 mid\n0 now\n3 low\nnothing waits\n",
+    },
+    Run {
+        image: "lengths",
+        input: "",
+        programs: &[LENGTHS],
+        printed: "3 4.\n3\n123456789012.\n",
+    },
+    Run {
+        image: "stops",
+        input: "",
+        programs: &[
+            STOPS_IN_SUM,
+            "object seen: list<int>\nfor v in seen max 20 { write v, \" \" }\nprint",
+            STOPS_IN_LOOP,
+        ],
+        printed: "3\n12 stop\n1 2 0 2 3 \n2\n",
+    },
+    Run {
+        image: "kept",
+        input: "",
+        programs: &[KEPT],
+        printed: "none\n7\n0\n8\n9\n6\n5\n0.\n",
     },
 ];

@@ -53,7 +53,7 @@ fn words_of(alloc: Global, text: &[u8], spans: &[Span]) -> Result<String, AllocE
 }
 
 /// Programs that are compiled, with their warnings.
-static WARNED: [(&str, &str); 8] = [
+static WARNED: [(&str, &str); 10] = [
     ("let x = 1\nprint x", "none"),
     (
         "let x = 1\nprint 2",
@@ -73,6 +73,11 @@ static WARNED: [(&str, &str); 8] = [
     (
         "object t: text\nprint t",
         "2:7: this text may be absent, and then nothing is printed for it / -\n",
+    ),
+    ("object t: text\nfail { stop }\nt = \"a\"\nprint t", "none"),
+    (
+        "object t: text\nfail { stop }\nif 1 { t = \"a\" }\nprint t",
+        "4:7: this text may be absent, and then nothing is printed for it / -\n",
     ),
 ];
 
