@@ -293,7 +293,7 @@ impl Emitter<'_> {
 
     // Calls that may stop the program
 
-    /// What is left of the innermost part, and what follows that part in the statement, runs only if
+    /// The rest of the innermost part, and what follows that part in the statement, runs only if
     /// a register isn't 0.
     pub fn guard_rest(&mut self, running: Register) {
         let Some(end) = self.part_end() else {

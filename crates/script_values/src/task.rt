@@ -169,7 +169,7 @@ pub enum Task {
     HandleIf(Register, Handler),
     SetBase(usize),
     At(Span),
-    /// What is left of the part runs only if the register isn't 0.
+    /// The rest of the part runs only if the register isn't 0.
     GuardRest(Register),
     EndRest,
     // expressions
