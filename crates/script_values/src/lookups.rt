@@ -426,7 +426,7 @@ impl Emitter<'_> {
         self.then_place(first.place, Task::Hold(statement, 0, Some(code)))
     }
 
-    /// The place of a `use` with this number, if it has so many.
+    /// The place of a `use` with this number, if it has one.
     fn held_place(&self, statement: &Statement, number: usize) -> Option<Held> {
         let StatementKind::Use(held) = statement.kind else {
             return None;

@@ -427,7 +427,7 @@ impl Emitter<'_> {
         self.type_after(expression.span, self.tree.steps(steps))
     }
 
-    /// The type of the place that a name and these steps lead to.
+    /// The type of the place that a name and these steps refer to.
     fn type_after(&self, name: Span, steps: &[Step]) -> Option<TypeAt> {
         let word = self.word(name);
         let (mut found, skipped) = match self.names.find(self.tree, word) {
