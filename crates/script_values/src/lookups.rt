@@ -248,8 +248,7 @@ impl Emitter<'_> {
         };
         self.check_changeable(&place);
         let handler = self.lookup_handler(statement);
-        let removes = self.removes(body_of(&statement));
-        let code = self.code_unless_removed(&place, handler, removes);
+        let code = self.body_code(&statement, &place, handler);
         let register = self.code.take_held();
         let walk = self.walk(&place, false);
         self.remove(&place, Removed::Below, statement.span);
@@ -292,14 +291,25 @@ impl Emitter<'_> {
         if self.is_flat {
             return self.look_up_flat(statement, name, &place, handler, names);
         }
-        let removes = self.removes(body_of(&statement));
-        let code = self.code_unless_removed(&place, handler, removes);
+        let code = self.body_code(&statement, &place, handler);
         let walk = self.walk(&place, false);
         self.bind_walk(name, &place, &walk);
         self.then(&[
             body_task(&statement, names),
             Task::CloseWalk(walk, handler, code),
         ])
+    }
+
+    /// A register for the code of a walk, if the handler runs after all its parts. A body that may
+    /// remove something comes between.
+    fn body_code(
+        &mut self,
+        statement: &Statement,
+        place: &Place,
+        handler: Handler,
+    ) -> Option<Register> {
+        let removes = matches!(handler, Handler::Part(_)) && self.removes(body_of(statement));
+        self.code_unless_removed(place, handler, removes)
     }
 
     /// Goes into an `own` or a `shared`.
@@ -595,8 +605,7 @@ impl Emitter<'_> {
         handler: Handler,
         names: usize,
     ) {
-        let removes = self.removes(body_of(&statement));
-        let code = self.code_unless_removed(place, handler, removes);
+        let code = self.body_code(&statement, place, handler);
         let index = self.code.literal_held(0);
         let walk = self.walk(place, true);
         let register = self.push_at(push, &walk, index);
