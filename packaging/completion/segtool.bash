@@ -10,7 +10,7 @@ _segtool()
             skipped=1
         elif [[ -n $skipped ]]; then
             skipped=''
-        elif [[ $word == @(--base|--room|--input|--svg|--on) ]]; then
+        elif [[ $word == @(--base|--room|--input|--step|--only|--last|--svg|--on) ]]; then
             skipped=1
         elif [[ $word != -* ]]; then
             if [[ -z $command ]]; then command=$word; else position=$((position + 1)); fi
@@ -31,7 +31,7 @@ _segtool()
             check) words='--explain -h --help' ;;
             verify) words='--explain -h --help' ;;
             run) words='--base --room --input --force --explain -h --help' ;;
-            trace) words='--input --explain -h --help' ;;
+            trace) words='--input --step --only --last --changes --explain -h --help' ;;
             stat) words='--explain -h --help' ;;
             list) words='--explain -h --help' ;;
             show) words='--all --explain -h --help' ;;
@@ -55,7 +55,7 @@ _segtool()
             run:2) files=1 ;;
             run:*) files=1 ;;
             trace:1) files=1 ;;
-            trace:2) files=1 ;;
+            trace:*) files=1 ;;
             stat:1) files=1 ;;
             list:1) files=1 ;;
             show:1) files=1 ;;

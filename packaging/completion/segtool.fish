@@ -17,7 +17,7 @@ function __segtool_at
     for word in (commandline -opc)[2..-1]
         if test $skipped = 1
             set skipped 0
-        else if contains -- $word --base --room --input --svg --on
+        else if contains -- $word --base --room --input --step --only --last --svg --on
             set skipped 1
         else if not string match -q -- '-*' $word
             set position (math $position + 1)
@@ -38,7 +38,7 @@ complete -c segtool -n 'test -z "$(__segtool_command)"' -a new -d 'Makes the ima
 complete -c segtool -n 'test -z "$(__segtool_command)"' -a check -d 'Prints ok if a file is a sound image, otherwise its first fault'
 complete -c segtool -n 'test -z "$(__segtool_command)"' -a verify -d 'Checks a client and prints the most steps that it can take on an image'
 complete -c segtool -n 'test -z "$(__segtool_command)"' -a run -d 'Runs clients on an image, prints their output and saves the image'
-complete -c segtool -n 'test -z "$(__segtool_command)"' -a trace -d 'Runs a client, prints each step with the registers after it, and saves nothing'
+complete -c segtool -n 'test -z "$(__segtool_command)"' -a trace -d 'Runs clients, prints each step with the registers after it, and saves nothing'
 complete -c segtool -n 'test -z "$(__segtool_command)"' -a stat -d 'Prints the size of a segment, its free memory, and how many objects it has'
 complete -c segtool -n 'test -z "$(__segtool_command)"' -a list -d 'Prints the name, type number and number of values of each object, then the types of unique objects'
 complete -c segtool -n 'test -z "$(__segtool_command)"' -a show -d 'Prints the objects of a segment with their values'
@@ -78,10 +78,14 @@ complete -c segtool -n '__segtool_at run 2' -F
 complete -c segtool -n '__segtool_at run 3 +' -F
 
 complete -c segtool -n 'test "$(__segtool_command)" = trace' -l input -r -F -d 'The file that the clients read, byte by byte [default: empty]'
+complete -c segtool -n 'test "$(__segtool_command)" = trace' -l step -x -d 'Print only the steps of each client from A to B, both included; also A.., ..B or A'
+complete -c segtool -n 'test "$(__segtool_command)" = trace' -l only -x -d 'Print only the steps that find, read or change the object with this name, or a register with this variable of a program'
+complete -c segtool -n 'test "$(__segtool_command)" = trace' -l last -x -d 'Print only the last N lines'
+complete -c segtool -n 'test "$(__segtool_command)" = trace' -l changes -d 'Mark with an asterisk the register that a step sets, and the reference through which it changes a value'
 complete -c segtool -n 'test "$(__segtool_command)" = trace' -l explain -d 'After a failure, also print what is wrong, where, and what would be right'
 complete -c segtool -n 'test "$(__segtool_command)" = trace' -s h -l help -d 'Print help'
 complete -c segtool -n '__segtool_at trace 1' -F
-complete -c segtool -n '__segtool_at trace 2' -F
+complete -c segtool -n '__segtool_at trace 2 +' -F
 
 complete -c segtool -n 'test "$(__segtool_command)" = stat' -l explain -d 'After a failure, also print what is wrong, where, and what would be right'
 complete -c segtool -n 'test "$(__segtool_command)" = stat' -s h -l help -d 'Print help'

@@ -1,17 +1,17 @@
-//! The commands on clients, all but `run`.
+//! The commands on clients, all but `run` and `trace`.
 
 ghost use Rattle.std.specs.Prelude.{◌≡◌, false};
 
-use crate::door::{assembled, opened, printed, ready, verified};
-use crate::programs::Source;
+use crate::door::{assembled, opened, printed, verified};
+use crate::programs::{client_of, tell_warnings};
 use cli_explain::{ProgramLines, explain_steps};
 use cli_host::{
-    Assembly, Files, Format, Trace, read_file, read_image, refuse_input, refuse_other_format,
+    Assembly, Files, Format, is_program, read_file, read_image, refuse_input, refuse_other_format,
     write_file,
 };
-use cli_program::{Failure, print, read_input};
-use client_trace::{Untraced, trace_program};
-use lezgauri::{Fault, Image, Ready, Sink, Verified};
+use cli_program::{Failure, print};
+use lezgauri::{Image, Sink, Verified};
+use script_compile::Client;
 use std::alloc::{AllocError, Global};
 
 /// `verify FILE CLIENT`: prints the most steps that the client can take on the image; of a program also what each line takes, if
@@ -30,31 +30,36 @@ pub fn verify_file<'a, F: Files, O: Sink, E: Sink>(
     let image = read_image(alloc, files, image)?;
     let bytes = read_file(alloc, files, client)?;
     let image = opened(alloc, image)?;
-    let source = Source::new(alloc, client, bytes, image.types(), err)?;
-    verify_source(alloc, &image, &source, explained, out)
+    let program = if explained && is_program(client) {
+        Some(bytes.as_slice())
+    } else {
+        None
+    };
+    let client = client_of(alloc, client, bytes.as_slice(), image.types())?;
+    tell_warnings(&client.warnings, err);
+    verify_client(alloc, &image, &client, program, out)
 }
 
-fn verify_source<'a, O: Sink>(
+/// Prints the most steps of a client, and what each line of its program costs if that is given.
+fn verify_client<'a, O: Sink>(
     alloc: Global,
     image: &Image<Global>,
-    source: &Source,
-    explained: bool,
+    client: &Client,
+    program: Option<&[u8]>,
     out: &mut O,
 ) -> Result<(), Failure<'a>>
     requires works { O.has_failed out.old ≡ false }
 {
-    let verified = verified(image, source.client())?;
+    let verified = verified(image, client.bytes.as_slice())?;
     let bound = verified.bound();
     print(out, format!(in alloc; "steps {bound}\n")?.as_bytes())?;
-    let Some(text) = source.program() else {
-        return Ok(());
-    };
-    if !explained || out.failed() {
-        return Ok(());
+    match program {
+        Some(text) if !out.failed() => {
+            let table = steps_of(alloc, text, client.lines.as_slice(), &verified)?;
+            print(out, table.as_bytes())
+        }
+        _ => Ok(()),
     }
-    let lines = source.lines(alloc, image.types())?;
-    let table = steps_of(alloc, text, lines.as_slice(), &verified)?;
-    print(out, table.as_bytes())
 }
 
 /// What each line of a program costs.
@@ -66,65 +71,6 @@ fn steps_of(
 ) -> Result<String, AllocError> {
     let program = ProgramLines { text, lines };
     explain_steps(alloc, program, &verified.client(), verified.bound())
-}
-
-/// `trace IMAGE CLIENT [--input FILE]`: prints each step of the client on the image with the registers' contents.
-pub fn trace_file<'a, F: Files, O: Sink, E: Sink>(
-    alloc: Global,
-    traced: &Trace<'a>,
-    files: &mut F,
-    out: &mut O,
-    err: &mut E,
-) -> Result<(), Failure<'a>>
-    requires works { O.has_failed out.old ≡ false }
-{
-    let image = read_image(alloc, files, traced.image)?;
-    let bytes = read_file(alloc, files, traced.client)?;
-    let input = read_input(alloc, files, traced.input)?;
-    let mut image = opened(alloc, image)?;
-    let source = Source::new(alloc, traced.client, bytes, image.types(), err)?;
-    trace_source(alloc, &mut image, &source, input.as_slice(), out)
-}
-
-fn trace_source<'a, O: Sink>(
-    alloc: Global,
-    image: &mut Image<Global>,
-    source: &Source,
-    input: &[u8],
-    out: &mut O,
-) -> Result<(), Failure<'a>>
-    requires works { O.has_failed out.old ≡ false }
-{
-    let lines = source.lines(alloc, image.types())?;
-    let client = ready(alloc, image, source.client())?;
-    match trace_client(alloc, image, &client, lines.as_slice(), input, out) {
-        Ok(()) => Ok(()),
-        Err(untraced) => Err(ended(untraced)),
-    }
-}
-
-/// Why a trace ended before its run did.
-fn ended<'a>(untraced: Untraced) -> Failure<'a> {
-    match untraced {
-        Untraced::Memory => Failure::from(Fault::Memory),
-        Untraced::OutputFailed => Failure::Output,
-    }
-}
-
-fn trace_client<O: Sink>(
-    alloc: Global,
-    image: &mut Image<Global>,
-    client: &Ready<Global>,
-    lines: &[usize],
-    input: &[u8],
-    out: &mut O,
-) -> Result<(), Untraced>
-    requires works { O.has_failed out.old ≡ false }
-{
-    match image {
-        Image::Seq(segment) => trace_program(alloc, segment, client, lines, input, out),
-        Image::Best(segment) => trace_program(alloc, segment, client, lines, input, out),
-    }
 }
 
 /// `asm TEXT OUT [--force]`: assembles a text, and writes the client. Refuses to write over the text, and without `--force` over

@@ -3,11 +3,10 @@
 use cli_program::Failure;
 use lezgauri::{
     AllocatorKind, Client, Fault, Image, IndexKind, Ready, TypeTable, Verified, assemble, check,
-    parse, prepare, print, verify,
+    parse, parse_typed, prepare, print, verify, verify_typed,
 };
-use script_compile::{Refusal, client_of, compile};
-use script_syntax::{Span, Tree};
-use std::alloc::{AllocError, Global};
+use script_compile::{Refusal, client_of};
+use std::alloc::Global;
 
 pub(crate) fn created(
     alloc: Global,
@@ -46,6 +45,12 @@ pub(crate) fn verified<'a>(image: &Image<Global>, client: &'a [u8]) -> Result<Ve
     verify(image, client)
 }
 
+/// The types of an image after a client has run on it, if it had these. Fails if the client can't run.
+pub(crate) fn types_left(types: &TypeTable, client: &[u8]) -> Result<TypeTable, Fault> {
+    let verified = verify_typed(parse_typed(client)?, types)?;
+    types.extends(&verified.client().types())
+}
+
 /// A client that is verified for an image, and prepared.
 pub(crate) fn ready<'a>(
     alloc: Global,
@@ -72,39 +77,6 @@ pub(crate) fn compiled<'a>(
         Err(Refusal::Errors(lines)) => Err(Failure::Program(lines)),
         Err(Refusal::Memory) => Err(Failure::from(Fault::Memory)),
     }
-}
-
-/// For each instruction of a program's client, the line of the program that it comes from; nothing if the program has errors.
-pub(crate) fn lines_of(
-    alloc: Global,
-    program: &[u8],
-    types: &TypeTable,
-) -> Result<Vec<usize>, AllocError> {
-    match script_syntax::parse(alloc, program) {
-        Ok(tree) => lines_of_tree(alloc, &tree, types),
-        Err(script_syntax::Failure::Errors(_)) => Ok(Vec::new(alloc)),
-        Err(script_syntax::Failure::Memory) => Err(AllocError),
-    }
-}
-
-fn lines_of_tree(
-    alloc: Global,
-    tree: &Tree<'_>,
-    types: &TypeTable,
-) -> Result<Vec<usize>, AllocError> {
-    match compile(alloc, tree, types) {
-        Ok(client) => lines_in(alloc, client.places.as_slice()),
-        Err(script_compile::Failure::Errors(_)) => Ok(Vec::new(alloc)),
-        Err(script_compile::Failure::Memory) => Err(AllocError),
-    }
-}
-
-fn lines_in(alloc: Global, places: &[Span]) -> Result<Vec<usize>, AllocError> {
-    let mut lines = Vec::new(alloc);
-    for place in places {
-        lines.push(place.line)?;
-    }
-    Ok(lines)
 }
 
 /// The canonical text of a client.

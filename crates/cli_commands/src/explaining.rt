@@ -134,7 +134,7 @@ fn clients_of<'a>(alloc: Global, request: &Request<'a>) -> Result<Vec<&'a str>, 
         Request::Verify { client, .. } | Request::Print { client } => {
             Vec::from_slice(alloc, &[*client])
         }
-        Request::Trace(trace) => Vec::from_slice(alloc, &[trace.client]),
+        Request::Trace(trace) => Vec::from_slice(alloc, trace.clients.as_slice()),
         Request::Run(run) | Request::RunPrograms(run) => {
             Vec::from_slice(alloc, run.clients.as_slice())
         }

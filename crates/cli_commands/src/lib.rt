@@ -10,5 +10,6 @@ mod made;
 mod problems;
 mod program;
 mod programs;
+mod traces;
 
 pub use program::command;

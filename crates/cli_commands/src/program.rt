@@ -2,10 +2,11 @@ ghost use Rattle.std.specs.Prelude.{◌≡◌, ◌≤◌, false, IfErr, OnOk};
 ghost use Rattle.cli_program.specs.Runs.{HasSaved, HasFailed};
 ghost use Rattle.cli_commands.specs.Requests.{OfRun};
 
-use crate::clients::{assemble_file, print_file, trace_file, verify_file};
+use crate::clients::{assemble_file, print_file, verify_file};
 use crate::explaining::explain_failure;
 use crate::images::{image_file, new_file};
 use crate::programs::{compile_file, run_programs};
+use crate::traces::trace_files;
 use cli_host::{Asked, Files, Request};
 use cli_program::{Failure, print, report, run_files, tell_failure};
 use lezgauri::Sink;
@@ -85,7 +86,7 @@ fn perform<'a, F: Files, O: Sink, E: Sink>(
         }
         Request::Run(run) => run_files(alloc, run, files, out),
         Request::RunPrograms(run) => run_programs(alloc, run, files, out, err),
-        Request::Trace(trace) => trace_file(alloc, trace, files, out, err),
+        Request::Trace(trace) => trace_files(alloc, trace, files, out, err),
         Request::Assemble(assembly) => assemble_file(alloc, assembly, files),
         Request::Compile(compilation) => compile_file(alloc, compilation, files, err),
         Request::Print { client } => print_file(alloc, client, files, out),

@@ -2,7 +2,7 @@
 
 ghost use Rattle.std.specs.Prelude.{◌≡◌, false};
 
-use crate::door::{checked, compiled, lines_of, parsed};
+use crate::door::{checked, compiled, parsed};
 use cli_host::{
     Compilation, Files, Format, Run, has_program, is_program, read_file, read_image, refuse_input,
     refuse_other_format, write_file,
@@ -38,75 +38,15 @@ pub fn compile_file<'a, F: Files, E: Sink>(
     if !forced {
         refuse_other_format(alloc, files, client, Format::Client)?;
     }
-    let compiled = told_client(alloc, program, text.as_slice(), &types, err)?;
-    Ok(write_file(files, client, compiled.as_slice())?)
-}
-
-/// The file of a client, or of a program that is compiled to one.
-#[derive(Drop)]
-pub(crate) struct Source {
-    bytes: Vec<u8>,
-    /// What the program was compiled to.
-    compiled: Option<Vec<u8>>,
-}
-
-impl Source {
-    /// The contents of the file with this name, for an image with these types. Warnings of a program are told.
-    pub(crate) fn new<'a, E: Sink>(
-        alloc: Global,
-        name: &str,
-        bytes: Vec<u8>,
-        types: &TypeTable,
-        err: &mut E,
-    ) -> Result<Source, Failure<'a>> {
-        let compiled = if is_program(name) {
-            Some(told_client(alloc, name, bytes.as_slice(), types, err)?)
-        } else {
-            None
-        };
-        Ok(Source { bytes, compiled })
-    }
-
-    /// The client.
-    pub(crate) fn client(&self) -> &[u8] {
-        match &self.compiled {
-            Some(client) => client.as_slice(),
-            None => self.bytes.as_slice(),
-        }
-    }
-
-    /// The program's text, if the file is a program.
-    pub(crate) fn program(&self) -> Option<&[u8]> {
-        match &self.compiled {
-            Some(_) => Some(self.bytes.as_slice()),
-            None => None,
-        }
-    }
-
-    /// For each instruction the line of the program that it comes from; nothing if the file is a client.
-    pub(crate) fn lines(&self, alloc: Global, types: &TypeTable) -> Result<Vec<usize>, AllocError> {
-        match self.program() {
-            Some(text) => lines_of(alloc, text, types),
-            None => Ok(Vec::new(alloc)),
-        }
-    }
-}
-
-/// The client of a program, whose warnings are told.
-fn told_client<'a, E: Sink>(
-    alloc: Global,
-    name: &str,
-    text: &[u8],
-    types: &TypeTable,
-    err: &mut E,
-) -> Result<Vec<u8>, Failure<'a>> {
-    let Client { bytes, warnings } = compiled(alloc, name, text, types)?;
+    let Client {
+        bytes, warnings, ..
+    } = compiled(alloc, program, text.as_slice(), &types)?;
     tell_warnings(&warnings, err);
-    Ok(bytes)
+    Ok(write_file(files, client, bytes.as_slice())?)
 }
 
 /// Tells warnings on the error output, unless that has failed.
-fn tell_warnings<E: Sink>(warnings: &String, err: &mut E) {
+pub(crate) fn tell_warnings<E: Sink>(warnings: &String, err: &mut E) {
     if !err.failed() {
         tell(err, warnings.as_bytes());
     }
@@ -138,7 +78,7 @@ pub fn run_programs<'a, F: Files, O: Sink, E: Sink>(
     tell_warnings(&warnings, err);
     let inputs = Inputs {
         image,
-        clients,
+        clients: files_of(alloc, clients)?,
         input,
     };
     run_inputs(alloc, run, inputs, files, out)
@@ -146,14 +86,14 @@ pub fn run_programs<'a, F: Files, O: Sink, E: Sink>(
 
 /// Clients of which some were programs, with the warnings of the programs.
 #[derive(Drop)]
-struct Compiled {
-    clients: Vec<Vec<u8>>,
-    warnings: String,
+pub(crate) struct Compiled {
+    pub clients: Vec<Client>,
+    pub warnings: String,
 }
 
 /// The clients in files with these names, for an image with these types. Each program is compiled for the types that the clients
 /// before it leave.
-fn compile_all<'a>(
+pub(crate) fn compile_all<'a>(
     alloc: Global,
     names: &[&str],
     sources: &[Vec<u8>],
@@ -179,10 +119,10 @@ impl Compiled {
         source: &[u8],
         types: TypeTable,
     ) -> Result<TypeTable, Failure<'a>> {
-        let Client { bytes, warnings } = client_of(alloc, name, source, &types)?;
-        self.warnings.push_str(warnings.as_str())?;
-        let types = types_after(types, bytes.as_slice());
-        match self.clients.push(bytes) {
+        let client = client_of(alloc, name, source, &types)?;
+        self.warnings.push_str(client.warnings.as_str())?;
+        let types = types_after(types, client.bytes.as_slice());
+        match self.clients.push(client) {
             Ok(()) => Ok(types),
             Err(_) => Err(Failure::from(Fault::Memory)),
         }
@@ -190,7 +130,7 @@ impl Compiled {
 }
 
 /// The client in a file with this name, for an image with these types. A program is compiled.
-fn client_of<'a>(
+pub(crate) fn client_of<'a>(
     alloc: Global,
     name: &str,
     source: &[u8],
@@ -201,8 +141,19 @@ fn client_of<'a>(
     }
     Ok(Client {
         bytes: Vec::from_slice(alloc, source)?,
+        lines: Vec::new(alloc),
+        variables: Vec::new(alloc),
         warnings: String::new(alloc),
     })
+}
+
+/// The files of clients.
+fn files_of(alloc: Global, clients: Vec<Client>) -> Result<Vec<Vec<u8>>, AllocError> {
+    let mut files = Vec::new(alloc);
+    for client in clients {
+        files.push(client.bytes)?;
+    }
+    Ok(files)
 }
 
 /// The clients in files with these names, for the types of an image, as [`run_programs`] compiled them; none if it couldn't.
@@ -218,8 +169,11 @@ pub(crate) fn compiled_again(
     let Ok(types) = checked(alloc, image) else {
         return sources;
     };
-    match compile_all(alloc, names, sources.as_slice(), types) {
-        Ok(Compiled { clients, .. }) => clients,
+    let Ok(Compiled { clients, .. }) = compile_all(alloc, names, sources.as_slice(), types) else {
+        return Vec::new(alloc);
+    };
+    match files_of(alloc, clients) {
+        Ok(files) => files,
         Err(_) => Vec::new(alloc),
     }
 }

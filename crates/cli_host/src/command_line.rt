@@ -1,4 +1,4 @@
-use crate::{Argument, CommandRow, FORCE, INPUT, RUN, Takes, parser, parser_of};
+use crate::{Argument, CLIENTS, CommandRow, FORCE, INPUT, RUN, Takes, parser, parser_of};
 use clap::Command;
 use std::alloc::{AllocError, Global};
 
@@ -54,7 +54,31 @@ const NEW: [Argument; 5] = [
     FORCE,
 ];
 
-const TRACE: [Argument; 3] = [IMAGE, CLIENT_OR_PROGRAM, INPUT];
+const TRACE: [Argument; 7] = [
+    IMAGE,
+    CLIENTS,
+    INPUT,
+    Argument {
+        id: "step",
+        takes: Takes::Text("A..B"),
+        help: "Print only the steps of each client from A to B, both included; also A.., ..B or A",
+    },
+    Argument {
+        id: "only",
+        takes: Takes::Text("NAME"),
+        help: "Print only the steps that find, read or change the object with this name, or a register with this variable of a program",
+    },
+    Argument {
+        id: "last",
+        takes: Takes::Number,
+        help: "Print only the last N lines",
+    },
+    Argument {
+        id: "changes",
+        takes: Takes::Flag,
+        help: "Mark with an asterisk the register that a step sets, and the reference through which it changes a value",
+    },
+];
 
 const SHOW: [Argument; 3] = [
     IMAGE,
@@ -162,9 +186,9 @@ const LINES: &[CommandRow] = &[
     },
     CommandRow {
         name: "trace",
-        about: "Runs a client, prints each step with the registers after it, and saves nothing",
+        about: "Runs clients, prints each step with the registers after it, and saves nothing",
         arguments: &TRACE,
-        examples: "Examples:\n  segtool trace shop.image stock.client\n  segtool trace shop.image sell.client --input orders.txt",
+        examples: "Examples:\n  segtool trace shop.image stock.client\n  segtool trace shop.image sell.client --input orders.txt\n  segtool trace shop.image stock.client sell.client --only prices --changes\n  segtool trace shop.image bytes.lez --step 100..120\n\nOf several clients each line begins with the client's number, from 0.",
     },
     CommandRow {
         name: "stat",

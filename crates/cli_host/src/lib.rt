@@ -12,6 +12,7 @@ mod problem;
 mod reading;
 mod request;
 mod run;
+mod tracing;
 
 pub use files::{FileFault, Files};
 pub use host::HostFiles;
@@ -22,6 +23,7 @@ pub use overwriting::{is_same_file, refuse_input, refuse_other_format};
 pub use problem::{FileProblem, Format};
 pub use reading::read;
 pub use request::{
-    Allocator, Asked, Assembly, Compilation, ImageTask, Index, NewImage, Picture, Request, Trace,
+    Allocator, Asked, Assembly, Compilation, ImageTask, Index, NewImage, Picture, Request, Steps,
+    Trace,
 };
-pub use run::{FORCE, INPUT, RUN, Run, has_program, is_program, run_of};
+pub use run::{CLIENTS, FORCE, INPUT, RUN, Run, has_program, is_program, run_of};

@@ -30,6 +30,8 @@ pub enum Takes {
     Flag,
     /// An option with a file.
     File,
+    /// An option with a text, which has this name in the help.
+    Text(&'static str),
     /// An option with a number of bytes.
     Number,
 }
@@ -56,6 +58,7 @@ pub fn parser_of<'a>(alloc: Global, argument: &'static Argument) -> Arg<'a> {
         Takes::Bytes => plain.required(true).value_parser(value_parser!(u32)),
         Takes::Flag => plain.long(argument.id).action(ArgAction::SetTrue),
         Takes::File => plain.long(argument.id).value_name("FILE"),
+        Takes::Text(name) => plain.long(argument.id).value_name(name),
         Takes::Number => plain
             .long(argument.id)
             .value_name("N")

@@ -1,10 +1,11 @@
 use crate::command_line::command_line;
 use crate::request::{
-    Allocator, Asked, Assembly, Compilation, ImageTask, Index, NewImage, Picture, Request, Trace,
+    Allocator, Asked, Assembly, Compilation, ImageTask, Index, NewImage, Picture, Request,
 };
+use crate::tracing::trace_of;
 use crate::{Misread, Run, has_program, number, run_of, word};
 use clap::ArgMatches;
-use std::alloc::{AllocError, Global};
+use std::alloc::Global;
 use std::convert::AsStr;
 
 /// The request of a command line of `segtool`, which begins with the program's name.
@@ -30,9 +31,10 @@ fn is_explained(matches: &ArgMatches) -> bool {
     }
 }
 
-fn request_of<'a>(alloc: Global, matches: &ArgMatches<'a>) -> Result<Request<'a>, AllocError> {
+fn request_of<'a>(alloc: Global, matches: &ArgMatches<'a>) -> Result<Request<'a>, Misread> {
     match matches.subcommand() {
         Some(("run", arguments)) => Ok(run_request(run_of(alloc, arguments)?)),
+        Some(("trace", arguments)) => Ok(Request::Trace(trace_of(alloc, arguments)?)),
         Some(("new", arguments)) => Ok(Request::New(new_of(arguments))),
         Some((command, arguments)) => match task_of(command, arguments) {
             Some(task) => Ok(Request::Image {
@@ -88,11 +90,6 @@ fn client_request<'a>(alloc: Global, command: &str, arguments: &ArgMatches<'a>) 
             image: word(arguments, "FILE"),
             client: word(arguments, "CLIENT"),
         },
-        "trace" => Request::Trace(Trace {
-            image: word(arguments, "FILE"),
-            client: word(arguments, "CLIENT"),
-            input: arguments.get_str("input"),
-        }),
         "asm" => Request::Assemble(Assembly {
             text: word(arguments, "TEXT"),
             client: word(arguments, "OUT"),

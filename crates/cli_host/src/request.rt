@@ -97,10 +97,25 @@ pub struct Compilation<'a> {
     pub forced: bool,
 }
 
-/// A client to trace on an image. Nothing is saved.
-#[derive(Clone, Copy)]
+/// Clients to trace on an image, one after the other. Nothing is saved.
+#[derive(Drop)]
 pub struct Trace<'a> {
     pub image: &'a str,
-    pub client: &'a str,
+    pub clients: Vec<&'a str>,
     pub input: Option<&'a str>,
+    /// The steps of each client that are printed.
+    pub steps: Steps,
+    /// The object or variable that a printed step touches.
+    pub only: Option<&'a str>,
+    /// How many lines are printed at most, the last ones.
+    pub last: Option<u32>,
+    /// Whether what a step changes is marked.
+    pub marks_changes: bool,
+}
+
+/// The steps from `first` to `last`, both included. A client's first step is 1.
+#[derive(Clone, Copy)]
+pub struct Steps {
+    pub first: u64,
+    pub last: u64,
 }

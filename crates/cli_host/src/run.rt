@@ -34,6 +34,13 @@ pub fn has_program(names: &[&str]) -> bool {
     false
 }
 
+/// The clients that run.
+pub const CLIENTS: Argument = Argument {
+    id: "CLIENT",
+    takes: Takes::Words,
+    help: "The files of the clients or programs (.lez), which run one after the other",
+};
+
 /// The file that a client reads.
 pub const INPUT: Argument = Argument {
     id: "input",
@@ -60,11 +67,7 @@ pub const RUN: [Argument; 7] = [
         takes: Takes::Word,
         help: "The file to which the saved image is written",
     },
-    Argument {
-        id: "CLIENT",
-        takes: Takes::Words,
-        help: "The files of the clients or programs (.lez), which run one after the other",
-    },
+    CLIENTS,
     Argument {
         id: "base",
         takes: Takes::Number,
@@ -84,10 +87,18 @@ pub fn run_of<'a>(alloc: Global, arguments: &ArgMatches<'a>) -> Result<Run<'a>, 
     Ok(Run {
         image: word(arguments, "IMAGE"),
         out: word(arguments, "OUT"),
-        clients: Vec::from_slice(alloc, arguments.get_strs("CLIENT").unwrap_or(&[]))?,
+        clients: clients_of(alloc, arguments)?,
         input: arguments.get_str("input"),
         base: number(arguments, "base"),
         room: arguments.get_one("room"),
         forced: arguments.get_flag("force"),
     })
+}
+
+/// The files of the argument [`CLIENTS`].
+pub(crate) fn clients_of<'a>(
+    alloc: Global,
+    arguments: &ArgMatches<'a>,
+) -> Result<Vec<&'a str>, AllocError> {
+    Vec::from_slice(alloc, arguments.get_strs("CLIENT").unwrap_or(&[]))
 }

@@ -21,20 +21,22 @@ impl Known {
         Ok(Known { in_front })
     }
 
-    /// What is known after the instruction at an index, if the run continues at `next`.
-    pub(crate) fn after(&self, instruction: Instruction, at: u16, next: u16) -> Registers {
-        match instruction.operation.row().role {
-            // a loop continues at its END, where the recorded knowledge is that after the body
-            Role::Loop => self.in_front_of(at),
-            Role::Plain | Role::Opener | Role::Else | Role::End => self.in_front_of(next),
-        }
-    }
-
-    fn in_front_of(&self, at: u16) -> Registers {
+    /// What is known in front of the instruction at an index.
+    pub(crate) fn in_front_of(&self, at: u16) -> Registers {
         match self.in_front.as_slice().get(usize::from(at)) {
             Some(registers) => *registers,
             None => Registers::new(),
         }
+    }
+}
+
+/// The instruction in front of which the registers contain what they contain after the instruction at `at`, if the run continues at
+/// `next`.
+pub(crate) fn known_at(instruction: Instruction, at: u16, next: u16) -> u16 {
+    match instruction.operation.row().role {
+        // a loop continues at its END, where the recorded knowledge is that after the body
+        Role::Loop => at,
+        Role::Plain | Role::Opener | Role::Else | Role::End => next,
     }
 }
 

@@ -1,8 +1,10 @@
+use crate::changed::Changed;
 use crate::gathered::Gathered;
 use crate::listing::Listing;
 use crate::path::push_bytes;
 use crate::paths::Paths;
-use client_code::{Client, REGISTERS};
+use crate::view::View;
+use client_code::{Client, Instruction, REGISTERS};
 use client_verify::{RegisterType, Registers};
 use client_vm::{Stepped, Stepper};
 use std::alloc::{AllocError, Global};
@@ -12,8 +14,7 @@ use std::fmt::Write;
 #[derive(Drop)]
 pub(crate) struct TraceLines<'a> {
     listing: Listing,
-    /// For each instruction the line of the program that it comes from; empty if there is no program.
-    sources: &'a [usize],
+    view: View<'a>,
     /// The steps so far.
     steps: u64,
     /// The lines of the last instruction.
@@ -24,11 +25,11 @@ impl<'a> TraceLines<'a> {
     pub(crate) fn new(
         alloc: Global,
         client: &Client,
-        sources: &'a [usize],
+        view: &View<'a>,
     ) -> Result<TraceLines<'a>, AllocError> {
         Ok(TraceLines {
             listing: Listing::new(alloc, client)?,
-            sources,
+            view: *view,
             steps: 0,
             text: String::new(alloc),
         })
@@ -39,53 +40,79 @@ impl<'a> TraceLines<'a> {
         self.text.as_bytes()
     }
 
-    /// Begins the lines of an instruction: the line of the program, the step's number, the instruction's number, and its text.
+    /// Counts the step of an instruction, which has no lines yet. Returns whether the view shows steps with this number.
+    pub(crate) fn count(&mut self, stepped: Stepped) -> bool {
+        self.text.clear();
+        if stepped.is_step {
+            self.steps = self.steps.saturating_add(1);
+        }
+        self.view.steps.has(self.steps)
+    }
+
+    /// Begins the lines of an instruction whose step is counted: the number of the client, the line of the program, the step's
+    /// number, the instruction's number, and its text.
     pub(crate) fn begin(&mut self, stepped: Stepped) -> Result<(), AllocError> {
         let Stepped {
             instruction,
             is_step,
         } = stepped;
-        self.text.clear();
+        self.add_client()?;
         self.add_source(instruction)?;
         self.add_step(is_step)?;
         write!(self.text, " {instruction:>4}  ")?;
         push_bytes(&mut self.text, self.listing.line(instruction))
     }
 
+    /// Adds the number of the client, if there are several.
+    fn add_client(&mut self) -> Result<(), AllocError> {
+        match self.view.client {
+            Some(client) => write!(self.text, "{client:>3} "),
+            None => Ok(()),
+        }
+    }
+
     /// Adds the line of the program that an instruction comes from, if there is a program.
     fn add_source(&mut self, instruction: u16) -> Result<(), AllocError> {
-        match self.sources.get(usize::from(instruction)) {
+        match self.view.source.lines.get(usize::from(instruction)) {
             Some(line) => write!(self.text, "{line:>5} "),
             None => Ok(()),
         }
     }
 
-    /// Adds the number of the next step, or `-` if the instruction is no step.
+    /// Adds the number of the step, or `-` if the instruction is no step.
     fn add_step(&mut self, is_step: bool) -> Result<(), AllocError> {
         if !is_step {
             return self.text.push_str("     -");
         }
-        self.steps = self.steps.saturating_add(1);
         let steps = self.steps;
         write!(self.text, "{steps:>6}")
     }
 
-    /// Adds each register of which something is known after an instruction, with its contents.
+    /// Adds each register of which something is known after an instruction, with its contents. `next` is the instruction in front
+    /// of which the registers contain the same.
     pub(crate) fn add_registers(
         &mut self,
-        stepped: Stepped,
+        instruction: Instruction,
+        at: u16,
+        next: u16,
         known: &Registers,
         paths: &Paths,
         run: &Stepper<Global>,
     ) -> Result<(), AllocError> {
-        if *known == Registers::new() {
-            return Ok(());
-        }
-        self.add_gap(stepped.instruction)?;
-        let mut mark = "  ; ";
+        let changed = if self.view.marks_changes {
+            Changed::by(instruction)
+        } else {
+            Changed::NONE
+        };
+        let mut separator = "  ; ";
         for register in 0..REGISTERS {
-            if self.add_register(mark, register, known.get(register), paths, run)? {
-                mark = ", ";
+            let held = known.get(register);
+            if held != RegisterType::Undefined {
+                let mark = if changed.has(register) { "*" } else { "" };
+                write!(self.text, "{separator}{mark}r{register} ")?;
+                self.add_variable(register, at, next)?;
+                self.add_held(register, held, paths, run)?;
+                separator = ", ";
             }
         }
         Ok(())
@@ -98,7 +125,7 @@ impl<'a> TraceLines<'a> {
     }
 
     /// Pads an instruction's text to the length of the longest one.
-    fn add_gap(&mut self, instruction: u16) -> Result<(), AllocError> {
+    pub(crate) fn add_gap(&mut self, instruction: u16) -> Result<(), AllocError> {
         let len = self.listing.line(instruction).len();
         for _ in len..self.listing.width() {
             self.text.push(' ')?;
@@ -106,21 +133,13 @@ impl<'a> TraceLines<'a> {
         Ok(())
     }
 
-    /// Adds a separator and a register with its contents, unless nothing is known of it.
-    fn add_register(
-        &mut self,
-        mark: &str,
-        register: u8,
-        known: RegisterType,
-        paths: &Paths,
-        run: &Stepper<Global>,
-    ) -> Result<bool, AllocError> {
-        if known == RegisterType::Undefined {
-            return Ok(false);
+    /// Adds the variable that a register has after an instruction, even if the variable ends there.
+    fn add_variable(&mut self, register: u8, at: u16, next: u16) -> Result<(), AllocError> {
+        let variable = self.view.source.variable_after(register, at, next);
+        if variable.is_empty() {
+            return Ok(());
         }
-        write!(self.text, "{mark}r{register} ")?;
-        self.add_held(register, known, paths, run)?;
-        Ok(true)
+        write!(self.text, "{variable} ")
     }
 
     /// Adds a register's contents.

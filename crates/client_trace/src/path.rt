@@ -51,6 +51,11 @@ impl Path {
         }
     }
 
+    /// Whether the path begins at the object with this name.
+    pub(crate) fn begins_at(&self, name: &str, constants: &[Constant]) -> bool {
+        self.root.is_named(name, constants)
+    }
+
     /// The path to a part of the value.
     pub(crate) fn part(mut self, part: Selector) -> Path {
         self.parts[self.len % MOST_PARTS] = part;
@@ -92,6 +97,36 @@ impl PathStart {
             PathStart::Unique(type_id) => write!(text, "unique t{type_id}"),
             PathStart::Owned(register) => write!(text, "r{register}.content"),
         }
+    }
+}
+
+impl PathStart {
+    /// Whether the object has this name, as paths spell it. The name of a family is a name of all its objects.
+    fn is_named(self, name: &str, constants: &[Constant]) -> bool {
+        match self {
+            PathStart::Named { constant, number } => {
+                let found = constants.get(usize::from(constant)).copied();
+                is_name(name, found.unwrap_or_default(), number)
+            }
+            PathStart::Unique(type_id) => match name.strip_prefix("unique t") {
+                Some(number) => number.parse() == Ok(type_id),
+                None => false,
+            },
+            PathStart::Owned(_) => false,
+        }
+    }
+}
+
+/// Whether an object with this exact name, or the member of this family with a number, has a name.
+fn is_name(name: &str, constant: Constant, number: i64) -> bool {
+    if name.as_bytes() == constant.bytes {
+        return true;
+    }
+    match (constant.kind, name.split_once('#')) {
+        (ConstantKind::Family, Some((family, member))) => {
+            family.as_bytes() == constant.bytes && member.parse() == Ok(number)
+        }
+        _ => false,
     }
 }
 

@@ -1,5 +1,5 @@
 use crate::path::{Path, PathStart, Selector};
-use client_code::{Client, Constants, Gives, Instruction, Operation, REGISTERS};
+use client_code::{Client, Constants, Gives, Instruction, Number, Operation, REGISTERS};
 use client_vm::{Fit, Segment, Stepper};
 use std::alloc::{AllocError, Global};
 
@@ -23,6 +23,18 @@ impl<'a> Paths<'a> {
     /// Adds the path to the value that a register refers to.
     pub(crate) fn add_to(&self, text: &mut String, register: u8) -> Result<(), AllocError> {
         self.get(register).add_to(text, self.constants.as_slice())
+    }
+
+    /// Whether the path to the value that a register refers to begins at the object with this name.
+    pub(crate) fn begins_at(&self, register: u8, name: &str) -> bool {
+        self.get(register)
+            .begins_at(name, self.constants.as_slice())
+    }
+
+    /// Whether an instruction finds, makes or removes the object with this name.
+    pub(crate) fn is_named(&self, i: Instruction, run: &Stepper<Global>, name: &str) -> bool {
+        i.operation.row().number == Number::TypedName
+            && named(i, run).begins_at(name, self.constants.as_slice())
     }
 
     fn get(&self, register: u8) -> Path {

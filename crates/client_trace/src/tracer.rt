@@ -1,12 +1,14 @@
 ghost use Rattle.std.specs.Prelude.{◌≡◌, ◌↔◌, true, false, IsErrOf};
 
 use crate::gathered::Gathered;
-use crate::known::Known;
+use crate::known::{Known, known_at};
 use crate::lines::TraceLines;
 use crate::paths::Paths;
 use crate::untraced::Untraced;
-use client_code::Client;
-use client_vm::{Fit, Ready, Segment, Sink, Stepper, write_all};
+use crate::view::View;
+use client_code::{Client, Instruction, Operand, Operation, REGISTERS};
+use client_verify::{RegisterType, Registers};
+use client_vm::{Fit, Ready, Segment, Sink, Stepped, Stepper, write_all};
 use std::alloc::{AllocError, Global};
 
 /// Runs a client on a segment, and writes a line for each instruction that it performs:
@@ -31,28 +33,32 @@ pub fn trace<F: Fit, W: Sink>(
     requires works { W.has_failed out.old ≡ false }
     ensures failed { IsErrOf result Untraced.OutputFailed ↔ (W.has_failed out.new ≡ true) }
 {
-    trace_program(alloc, segment, client, &[], input, out)
+    let _ = trace_view(alloc, segment, client, input, &View::ALL, out)?;
+    Ok(())
 }
 
-/// Runs a client as [`trace`] does. Its program has these lines, one for each instruction: each line of the trace begins with
-/// the line of the program that the instruction comes from.
-pub fn trace_program<F: Fit, W: Sink>(
+/// Runs a client as [`trace`] does, and shows what a view has. Returns how many bytes of the input the client read.
+///
+/// In the trace of a program each line begins with the line of the program that the instruction comes from, and a register that
+/// has a variable is followed by its name: `r2 total = 5`.
+pub fn trace_view<F: Fit, W: Sink>(
     alloc: Global,
     segment: &mut Segment<F, Global>,
     client: &Ready<Global>,
-    sources: &[usize],
     input: &[u8],
+    view: &View<'_>,
     out: &mut W,
-) -> Result<(), Untraced>
+) -> Result<usize, Untraced>
     requires works { W.has_failed out.old ≡ false }
     ensures failed { IsErrOf result Untraced.OutputFailed ↔ (W.has_failed out.new ≡ true) }
 {
     let verified = client.verified();
-    let mut tracer = Tracer::new(alloc, verified.client(), sources)?;
+    let mut tracer = Tracer::new(alloc, verified.client(), view)?;
     let mut run = Stepper::new(segment, client, input);
     let ended = tracer.to_end(&mut run, segment, verified.bound(), out);
     run.finish(segment);
-    ended
+    ended?;
+    Ok(tracer.asked.min(input.len()))
 }
 
 /// The parts of a trace's lines, apart from the run.
@@ -62,19 +68,24 @@ struct Tracer<'a> {
     known: Known,
     paths: Paths<'a>,
     lines: TraceLines<'a>,
+    view: View<'a>,
+    /// How often the client asked for a byte of the input.
+    asked: usize,
 }
 
 impl<'a> Tracer<'a> {
     fn new(
         alloc: Global,
         client: Client<'a>,
-        sources: &'a [usize],
+        view: &View<'a>,
     ) -> Result<Tracer<'a>, AllocError> {
         Ok(Tracer {
             client,
             known: Known::new(alloc, &client)?,
             paths: Paths::new(&client),
-            lines: TraceLines::new(alloc, &client, sources)?,
+            lines: TraceLines::new(alloc, &client, view)?,
+            view: *view,
+            asked: 0,
         })
     }
 
@@ -98,7 +109,7 @@ impl<'a> Tracer<'a> {
         Ok(())
     }
 
-    /// Performs an instruction, and makes its lines. At the end of the code it does nothing.
+    /// Performs an instruction, and makes its lines, or none if the view doesn't show it. At the end of the code it does nothing.
     fn step<F: Fit>(
         &mut self,
         run: &mut Stepper<Global>,
@@ -108,15 +119,80 @@ impl<'a> Tracer<'a> {
         let Some(instruction) = self.client.instruction(u32::from(at)) else {
             return Ok(false);
         };
+        let uses = self.uses(instruction, at, run);
         self.paths.pass(instruction, run, segment);
         let mut printed = Gathered::new();
         let Ok(Some(stepped)) = run.step(segment, &mut printed) else {
             return Ok(false);
         };
-        let known = self.known.after(instruction, at, run.instruction());
-        self.lines.begin(stepped)?;
-        self.lines.add_registers(stepped, &known, &self.paths, run)?;
-        self.lines.end(&printed)?;
+        self.count_byte(instruction);
+        let next = known_at(instruction, at, run.instruction());
+        if self.lines.count(stepped) && (uses || self.sets(instruction, next)) {
+            self.add_lines(instruction, stepped, next, run)?;
+            self.lines.end(&printed)?;
+        }
         Ok(true)
+    }
+
+    /// Makes the line of an instruction, after which the registers contain what they contain in front of `next`.
+    fn add_lines(
+        &mut self,
+        instruction: Instruction,
+        stepped: Stepped,
+        next: u16,
+        run: &Stepper<Global>,
+    ) -> Result<(), AllocError> {
+        let known = self.known.in_front_of(next);
+        self.lines.begin(stepped)?;
+        if known == Registers::new() {
+            return Ok(());
+        }
+        let at = stepped.instruction;
+        self.lines.add_gap(at)?;
+        self.lines
+            .add_registers(instruction, at, next, &known, &self.paths, run)
+    }
+
+    /// Counts a byte that an instruction asks for.
+    fn count_byte(&mut self, instruction: Instruction) {
+        if instruction.operation == Operation::GetByte {
+            self.asked = self.asked.saturating_add(1);
+        }
+    }
+
+    /// Whether an instruction that the run performs next uses the object or variable of the view. It does if there is none.
+    fn uses(&self, instruction: Instruction, at: u16, run: &Stepper<Global>) -> bool {
+        let Some(name) = self.view.only else {
+            return true;
+        };
+        let row = instruction.operation.row();
+        self.paths.is_named(instruction, run, name)
+            || self.has(row.b, instruction.b, at, name)
+            || self.has(row.c, instruction.c, at, name)
+    }
+
+    /// Whether the register that an instruction set has the variable of the view, or refers into its object.
+    fn sets(&self, instruction: Instruction, next: u16) -> bool {
+        let Some(name) = self.view.only else {
+            return true;
+        };
+        self.has(instruction.operation.row().a, instruction.a, next, name)
+    }
+
+    /// Whether a register in an operand has the variable with this name in front of an instruction, or refers into the object with
+    /// this name.
+    fn has(&self, operand: Operand, register: u8, instruction: u16, name: &str) -> bool {
+        if operand == Operand::Unused || register >= REGISTERS {
+            return false;
+        }
+        if self.view.source.variable(instruction, register) == name {
+            return true;
+        }
+        match self.known.in_front_of(instruction).get(register) {
+            RegisterType::Reference(_, _) | RegisterType::ReadOnly(_, _) => {
+                self.paths.begins_at(register, name)
+            }
+            RegisterType::Undefined | RegisterType::Int | RegisterType::Owner(_) => false,
+        }
     }
 }

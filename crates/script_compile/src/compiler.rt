@@ -2,9 +2,10 @@
 
 use crate::entry::{Failure, Wrong};
 use crate::nests::{Deferred, KeptName, Nest, NestKind};
+use crate::variables::{VariableChange, Variables, VariablesMark};
 use client_code::TypeTable;
 use script_code::{
-    Code, Compiled, Error, ErrorClass, ErrorKind, Linked, Meaning, NOWHERE, Problem, Program,
+    Code, Compiled, Error, ErrorClass, ErrorKind, Linked, Meaning, NOWHERE, Name, Problem, Program,
     Register, Trouble, WarningKind, append, link,
 };
 use script_syntax::{Span, Statement, StatementKind, Tree};
@@ -27,6 +28,7 @@ pub struct Mark {
     pub nests: usize,
     pub deferred: usize,
     pub kept: usize,
+    variables: VariablesMark,
 }
 
 /// What a statement may be in.
@@ -88,6 +90,13 @@ struct Seen {
     is_used: bool,
 }
 
+/// A client, and which variables its registers have.
+#[derive(Drop)]
+pub struct Translation {
+    pub compiled: Compiled,
+    pub variables: Vec<VariableChange>,
+}
+
 #[derive(Drop)]
 pub struct Compiler<'t> {
     pub emitter: Emitter<'t>,
@@ -100,6 +109,7 @@ pub struct Compiler<'t> {
     choices: Vec<Choice>,
     statements: Vec<StatementMark>,
     seen: Vec<Seen>,
+    variables: Variables,
 }
 
 impl<'t> Compiler<'t> {
@@ -114,27 +124,33 @@ impl<'t> Compiler<'t> {
             choices: Vec::new(alloc),
             statements: Vec::new(alloc),
             seen: Vec::new(alloc),
+            variables: Variables::new(alloc),
         }
     }
 }
 
 impl<'t> Compiler<'t> {
     /// The client with these parts, or why it has none.
-    pub fn finish(self, linked: Linked) -> Result<Compiled, Failure> {
+    pub fn finish(self, linked: Linked) -> Result<Translation, Failure> {
         if self.has_failed() {
             return Err(self.into_failure());
         }
-        Ok(self.into_compiled(linked))
+        Ok(self.into_translation(linked))
     }
 
     /// The client with these parts. Its warnings are in the order of the text.
-    fn into_compiled(self, linked: Linked) -> Compiled {
-        let Compiler { emitter, .. } = self;
+    fn into_translation(self, linked: Linked) -> Translation {
+        let Compiler {
+            emitter, variables, ..
+        } = self;
         let Emitter { code, warnings, .. } = emitter;
         let Code { constants, .. } = code;
         let mut warnings = warnings;
         warnings.sort_unstable_by_key(|warning| warning.span.start);
-        linked.into_compiled(constants, warnings)
+        Translation {
+            compiled: linked.into_compiled(constants, warnings),
+            variables: variables.into_changes(),
+        }
     }
 
     /// Why the program isn't compiled. The errors are in the order of the text.
@@ -195,6 +211,7 @@ impl<'t> Compiler<'t> {
             let Some(task) = self.emitter.tasks.pop() else {
                 return;
             };
+            self.note_variables();
             self.perform(task);
             if self.emitter.code.trouble.is_set() {
                 self.recover();
@@ -328,6 +345,7 @@ impl<'t> Compiler<'t> {
             nests: self.nests.len(),
             deferred: self.deferred.len(),
             kept: self.kept.len(),
+            variables: self.variables.mark(),
         }
     }
 
@@ -340,6 +358,7 @@ impl<'t> Compiler<'t> {
         self.nests.truncate(mark.nests);
         self.deferred.truncate(mark.deferred);
         self.kept.truncate(mark.kept);
+        self.variables.go_back(&mark.variables);
     }
 
     // Statements
@@ -401,6 +420,7 @@ impl<'t> Compiler<'t> {
             let Some(name) = self.emitter.names.pop() else {
                 break;
             };
+            self.end_variable(&name);
             if let Meaning::Owner { register, .. } = name.meaning {
                 if self.emitter.code.owns(register) {
                     self.emitter.code.drop_owner(register);
@@ -413,6 +433,20 @@ impl<'t> Compiler<'t> {
                 self.see(name.span, name.is_used);
             }
         }
+    }
+
+    fn note_variables(&mut self) {
+        let emitter = &mut self.emitter;
+        let instruction = emitter.code.instructions.len();
+        self.variables
+            .note(&emitter.names, instruction, &mut emitter.code.trouble);
+    }
+
+    fn end_variable(&mut self, name: &Name) {
+        let emitter = &mut self.emitter;
+        let instruction = emitter.code.instructions.len();
+        self.variables
+            .end(name, &emitter.names, instruction, &mut emitter.code.trouble);
     }
 
     fn see(&mut self, span: Span, is_used: bool) {

@@ -1,4 +1,4 @@
-use crate::compiler::Compiler;
+use crate::compiler::{Compiler, Translation};
 use client_code::TypeTable;
 use script_code::{Code, Compiled, Error, NOWHERE, Program, Types};
 use script_syntax::{Span, Tree};
@@ -31,6 +31,16 @@ impl From<AllocError> for Failure {
 /// Compiles a program for the types of an image. Types that the image doesn't have get the next
 /// numbers.
 pub fn compile(alloc: Global, tree: &Tree<'_>, image: &TypeTable) -> Result<Compiled, Failure> {
+    let Translation { compiled, .. } = translate(alloc, tree, image)?;
+    Ok(compiled)
+}
+
+/// Compiles a program as [`compile`] does, and also tells which variables the registers have.
+pub fn translate(
+    alloc: Global,
+    tree: &Tree<'_>,
+    image: &TypeTable,
+) -> Result<Translation, Failure> {
     let Ok(program) = new_program(alloc) else {
         return Err(Failure::Memory);
     };

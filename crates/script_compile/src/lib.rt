@@ -3,15 +3,18 @@
 
 mod blocks;
 mod calls;
+mod client;
 mod compiler;
 mod entry;
 mod loops;
 mod nests;
 mod perform;
 mod report;
+mod variables;
 
+pub use client::{Client, Refusal, client_of};
 pub use entry::{Failure, Wrong, compile};
-pub use report::{Client, Refusal, client_of};
 pub use script_code::{
-    Compiled, Error, Hint, Message, TypeAt, Types, Warning, WarningKind, WarningMessage,
+    Compiled, Error, Hint, Message, Register, TypeAt, Types, Warning, WarningKind, WarningMessage,
 };
+pub use variables::VariableChange;

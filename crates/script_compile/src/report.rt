@@ -1,191 +1,58 @@
-//! From a program's text to a client, or to lines that tell what is wrong.
+//! The lines that tell what is wrong with a program, for people.
 
-use crate::entry::{Failure, Wrong, compile};
-use client_code::TypeTable;
-use script_code::{Compiled, Error, Warning};
-use script_syntax::{Span, Tree, parse};
+use script_syntax::Span;
 use std::alloc::{AllocError, Global};
-use std::fmt::Write;
+use std::fmt::{Display, Write};
 use std::str;
 
 /// How many bytes of a line are shown at most, before the beginning of an error and after it.
 const MOST_SHOWN: usize = 200;
 
-/// The client of a program.
+/// Errors or warnings of the program in a file, in lines.
 #[derive(Drop)]
-pub struct Client {
-    /// The client's file.
-    pub bytes: Vec<u8>,
-    /// A line for each warning, with the line of the program and a hint.
-    pub warnings: String,
-}
-
-/// Why a program has no client.
-#[derive(Drop)]
-pub enum Refusal {
-    /// All errors of the program: a line for each, with the line of the program and a hint.
-    Errors(String),
-    /// The host is out of memory.
-    Memory,
-}
-
-impl From<AllocError> for Refusal {
-    fn from(_: AllocError) -> Refusal {
-        Refusal::Memory
-    }
-}
-
-/// Compiles the program in a file with this name, for the types of an image.
-pub fn client_of(
+pub struct Report<'p> {
     alloc: Global,
-    file: &str,
-    text: &[u8],
-    image: &TypeTable,
-) -> Result<Client, Refusal> {
-    match parse(alloc, text) {
-        Ok(tree) => client_of_tree(alloc, file, text, &tree, image),
-        Err(script_syntax::Failure::Memory) => Err(Refusal::Memory),
-        Err(script_syntax::Failure::Errors(errors)) => {
-            Err(refused(syntax_lines(alloc, file, text, errors.as_slice())))
+    file: &'p str,
+    /// The program's text.
+    pub text: &'p [u8],
+    lines: String,
+}
+
+impl<'p> Report<'p> {
+    /// No lines, of the program in a file with this name.
+    pub fn new(alloc: Global, file: &'p str, text: &'p [u8]) -> Report<'p> {
+        Report {
+            alloc,
+            file,
+            text,
+            lines: String::new(alloc),
         }
     }
 }
 
-fn client_of_tree(
-    alloc: Global,
-    file: &str,
-    text: &[u8],
-    tree: &Tree<'_>,
-    image: &TypeTable,
-) -> Result<Client, Refusal> {
-    match compile(alloc, tree, image) {
-        Ok(compiled) => accepted(told_client(alloc, file, text, &compiled)),
-        Err(Failure::Errors(wrong)) => Err(refused(error_lines(alloc, file, text, &wrong))),
-        Err(Failure::Memory) => Err(Refusal::Memory),
+impl Report<'_> {
+    /// Adds the lines of an error or a warning, whose `head` is that word: its position and its message, the line of the program,
+    /// and the hint.
+    pub fn add<M: Display, H: Display + Drop>(
+        &mut self,
+        head: &str,
+        span: Span,
+        message: &M,
+        hint: Option<H>,
+    ) -> Result<(), AllocError> {
+        let (file, line, column) = (self.file, span.line, span.column);
+        write!(self.lines, "{file}:{line}:{column}: {head}: {message}\n")?;
+        write_source(&mut self.lines, self.text, span)?;
+        match hint {
+            Some(hint) => write!(self.lines, "hint: {hint}\n"),
+            None => Ok(()),
+        }
     }
-}
 
-/// The client, with its warnings.
-fn told_client(
-    alloc: Global,
-    file: &str,
-    text: &[u8],
-    compiled: &Compiled,
-) -> Result<Client, AllocError> {
-    let warnings = warning_lines(alloc, file, text, compiled.warnings.as_slice())?;
-    Ok(Client {
-        bytes: compiled.file(alloc)?,
-        warnings,
-    })
-}
-
-fn accepted(client: Result<Client, AllocError>) -> Result<Client, Refusal> {
-    match client {
-        Ok(client) => Ok(client),
-        Err(_) => Err(Refusal::Memory),
+    /// The lines.
+    pub fn into_lines(self) -> Result<String, AllocError> {
+        printable(self.alloc, self.lines.as_str())
     }
-}
-
-/// The refusal with these lines.
-fn refused(lines: Result<String, AllocError>) -> Refusal {
-    match lines {
-        Ok(lines) => Refusal::Errors(lines),
-        Err(_) => Refusal::Memory,
-    }
-}
-
-fn syntax_lines(
-    alloc: Global,
-    file: &str,
-    text: &[u8],
-    errors: &[script_syntax::Error],
-) -> Result<String, AllocError> {
-    let mut lines = String::new(alloc);
-    for error in errors {
-        write_syntax_error(&mut lines, file, text, error)?;
-    }
-    printable(alloc, lines.as_str())
-}
-
-fn write_syntax_error(
-    lines: &mut String,
-    file: &str,
-    text: &[u8],
-    error: &script_syntax::Error,
-) -> Result<(), AllocError> {
-    write_position(lines, file, error.span)?;
-    let message = error.message(text);
-    write!(lines, "error: {message}\n")?;
-    write_source(lines, text, error.span)?;
-    match error.hint() {
-        Some(hint) => write!(lines, "hint: {hint}\n"),
-        None => Ok(()),
-    }
-}
-
-fn error_lines(
-    alloc: Global,
-    file: &str,
-    text: &[u8],
-    wrong: &Wrong,
-) -> Result<String, AllocError> {
-    let mut lines = String::new(alloc);
-    for error in wrong.errors.as_slice() {
-        write_error(&mut lines, file, text, error, wrong)?;
-    }
-    printable(alloc, lines.as_str())
-}
-
-fn write_error(
-    lines: &mut String,
-    file: &str,
-    text: &[u8],
-    error: &Error,
-    wrong: &Wrong,
-) -> Result<(), AllocError> {
-    write_position(lines, file, error.span)?;
-    let message = error.message(text, &wrong.types);
-    write!(lines, "error: {message}\n")?;
-    write_source(lines, text, error.span)?;
-    match error.hint(text, &wrong.types, wrong.alive.as_slice()) {
-        Some(hint) => write!(lines, "hint: {hint}\n"),
-        None => Ok(()),
-    }
-}
-
-fn warning_lines(
-    alloc: Global,
-    file: &str,
-    text: &[u8],
-    warnings: &[Warning],
-) -> Result<String, AllocError> {
-    let mut lines = String::new(alloc);
-    for warning in warnings {
-        write_warning(&mut lines, file, text, warning)?;
-    }
-    printable(alloc, lines.as_str())
-}
-
-fn write_warning(
-    lines: &mut String,
-    file: &str,
-    text: &[u8],
-    warning: &Warning,
-) -> Result<(), AllocError> {
-    write_position(lines, file, warning.span)?;
-    let message = warning.message(text);
-    write!(lines, "warning: {message}\n")?;
-    write_source(lines, text, warning.span)?;
-    match warning.hint() {
-        Some(hint) => write!(lines, "hint: {hint}\n"),
-        None => Ok(()),
-    }
-}
-
-/// Writes where a span begins.
-fn write_position(lines: &mut String, file: &str, span: Span) -> Result<(), AllocError> {
-    let (line, column) = (span.line, span.column);
-    write!(lines, "{file}:{line}:{column}: ")
 }
 
 /// Writes the line of a text that a span begins in, and carets under the span's part of it. A long line isn't shown.

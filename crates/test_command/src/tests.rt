@@ -10,4 +10,5 @@ mod problems;
 mod programs;
 mod rows;
 mod segments;
+mod traces;
 mod views;
