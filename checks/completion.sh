@@ -46,6 +46,9 @@ completes "--help --version" segtool --
 completes "count.lez count.text counter.image" segtool run coun
 completes "count.lez count.text counter.image" segtool run a b c d coun
 completes "count.lez count.text counter.image" segtool trace --input coun
+completes "count.lez count.text counter.image" segtool trace counter.image a b coun
+completes "" segtool trace counter.image --only coun
+completes "--changes --explain --help --input --last --only --step" segtool trace counter.image --
 completes "cache.lez cache.text" segtool run --base 16 cach
 completes "" segtool check counter.image coun
 completes "--explain --force --help --on" segtool compile count.lez out --

@@ -81,5 +81,6 @@ try verify counter.image increment.lez
 try verify counter.image increment.lez --explain
 try run counter.image saved.image increment.lez increment.client
 try trace counter.image increment.lez
+try trace counter.image increment.client increment.lez --only x --last 4 --changes
 try print increment.client
 try --version

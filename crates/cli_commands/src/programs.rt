@@ -39,7 +39,9 @@ pub fn compile_file<'a, F: Files, E: Sink>(
         refuse_other_format(alloc, files, client, Format::Client)?;
     }
     let Client {
-        bytes, warnings, ..
+        bytes,
+        warnings,
+        ..
     } = compiled(alloc, program, text.as_slice(), &types)?;
     tell_warnings(&warnings, err);
     Ok(write_file(files, client, bytes.as_slice())?)

@@ -73,7 +73,11 @@ fn test_clients<'a>(clients: &[Client], types: TypeTable) -> Result<(), Failure<
 
 /// The number of a client, unless it is the only one.
 fn number_of(number: usize, clients: &[Client]) -> Option<usize> {
-    if clients.len() > 1 { Some(number) } else { None }
+    if clients.len() > 1 {
+        Some(number)
+    } else {
+        None
+    }
 }
 
 /// Clients to trace, with their files and their input.
@@ -88,11 +92,7 @@ struct Traced<'t, 'a> {
 
 impl Traced<'_, '_> {
     /// Prints the lines that are asked for.
-    fn print<'a, O: Sink>(
-        &self,
-        image: &mut Image<Global>,
-        out: &mut O,
-    ) -> Result<(), Failure<'a>>
+    fn print<'a, O: Sink>(&self, image: &mut Image<Global>, out: &mut O) -> Result<(), Failure<'a>>
         requires works { O.has_failed out.old ≡ false }
     {
         let Some(most) = self.trace.last else {

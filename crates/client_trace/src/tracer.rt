@@ -74,11 +74,7 @@ struct Tracer<'a> {
 }
 
 impl<'a> Tracer<'a> {
-    fn new(
-        alloc: Global,
-        client: Client<'a>,
-        view: &View<'a>,
-    ) -> Result<Tracer<'a>, AllocError> {
+    fn new(alloc: Global, client: Client<'a>, view: &View<'a>) -> Result<Tracer<'a>, AllocError> {
         Ok(Tracer {
             client,
             known: Known::new(alloc, &client)?,

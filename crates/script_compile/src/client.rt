@@ -101,13 +101,15 @@ fn refused(lines: Result<String, AllocError>) -> Refusal {
     }
 }
 
-fn syntax_lines(
-    report: Report<'_>,
-    errors: &[script_syntax::Error],
-) -> Result<String, AllocError> {
+fn syntax_lines(report: Report<'_>, errors: &[script_syntax::Error]) -> Result<String, AllocError> {
     let mut report = report;
     for error in errors {
-        report.add("error", error.span, &error.message(report.text), error.hint())?;
+        report.add(
+            "error",
+            error.span,
+            &error.message(report.text),
+            error.hint(),
+        )?;
     }
     report.into_lines()
 }

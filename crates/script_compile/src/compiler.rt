@@ -141,7 +141,9 @@ impl<'t> Compiler<'t> {
     /// The client with these parts. Its warnings are in the order of the text.
     fn into_translation(self, linked: Linked) -> Translation {
         let Compiler {
-            emitter, variables, ..
+            emitter,
+            variables,
+            ..
         } = self;
         let Emitter { code, warnings, .. } = emitter;
         let Code { constants, .. } = code;
@@ -445,8 +447,7 @@ impl<'t> Compiler<'t> {
     fn end_variable(&mut self, name: &Name) {
         let emitter = &mut self.emitter;
         let instruction = emitter.code.instructions.len();
-        self.variables
-            .end(name, &emitter.names, instruction, &mut emitter.code.trouble);
+        self.variables.end(name, &emitter.names, instruction, &mut emitter.code.trouble);
     }
 
     fn see(&mut self, span: Span, is_used: bool) {

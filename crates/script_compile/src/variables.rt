@@ -65,13 +65,7 @@ impl Variables {
 
     /// Notes that a name ended before this instruction. If another name has the same register, the register has that variable
     /// again.
-    pub fn end(
-        &mut self,
-        name: &Name,
-        others: &Names,
-        instruction: usize,
-        trouble: &mut Trouble,
-    ) {
+    pub fn end(&mut self, name: &Name, others: &Names, instruction: usize, trouble: &mut Trouble) {
         self.noted = self.noted.min(others.len());
         if let Some(register) = variable_register(name) {
             let other = name_in(others, register);
