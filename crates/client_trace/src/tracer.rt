@@ -123,7 +123,7 @@ impl<'a> Tracer<'a> {
         };
         self.count_byte(instruction);
         let next = known_at(instruction, at, run.instruction());
-        if self.lines.count(stepped) && (uses || self.sets(instruction, next)) {
+        if self.lines.count(stepped) && (uses || self.sets(instruction, at, next)) {
             self.add_lines(instruction, stepped, next, run)?;
             self.lines.end(&printed)?;
         }
@@ -163,27 +163,31 @@ impl<'a> Tracer<'a> {
         };
         let row = instruction.operation.row();
         self.paths.is_named(instruction, run, name)
-            || self.has(row.b, instruction.b, at, name)
-            || self.has(row.c, instruction.c, at, name)
+            || self.reads(row.b, instruction.b, at, name)
+            || self.reads(row.c, instruction.c, at, name)
     }
 
-    /// Whether the register that an instruction set has the variable of the view, or refers into its object.
-    fn sets(&self, instruction: Instruction, next: u16) -> bool {
+    /// Whether an operand is a register that has the variable with this name in front of an instruction, or that refers into the
+    /// object with this name.
+    fn reads(&self, operand: Operand, register: u8, at: u16, name: &str) -> bool {
+        is_register(operand, register)
+            && (self.view.source.variable(at, register) == name || self.refers(register, at, name))
+    }
+
+    /// Whether the register that the instruction at an index set has the variable of the view, or refers into its object. `next` is
+    /// the instruction in front of which the registers contain the same.
+    fn sets(&self, instruction: Instruction, at: u16, next: u16) -> bool {
         let Some(name) = self.view.only else {
             return true;
         };
-        self.has(instruction.operation.row().a, instruction.a, next, name)
+        let register = instruction.a;
+        is_register(instruction.operation.row().a, register)
+            && (self.view.source.variable_after(register, at, next) == name
+                || self.refers(register, next, name))
     }
 
-    /// Whether a register in an operand has the variable with this name in front of an instruction, or refers into the object with
-    /// this name.
-    fn has(&self, operand: Operand, register: u8, instruction: u16, name: &str) -> bool {
-        if operand == Operand::Unused || register >= REGISTERS {
-            return false;
-        }
-        if self.view.source.variable(instruction, register) == name {
-            return true;
-        }
+    /// Whether a register refers into the object with this name in front of an instruction.
+    fn refers(&self, register: u8, instruction: u16, name: &str) -> bool {
         match self.known.in_front_of(instruction).get(register) {
             RegisterType::Reference(_, _) | RegisterType::ReadOnly(_, _) => {
                 self.paths.begins_at(register, name)
@@ -191,4 +195,9 @@ impl<'a> Tracer<'a> {
             RegisterType::Undefined | RegisterType::Int | RegisterType::Owner(_) => false,
         }
     }
+}
+
+/// Whether an operand is a register.
+fn is_register(operand: Operand, number: u8) -> bool {
+    operand != Operand::Unused && number < REGISTERS
 }
