@@ -12,8 +12,8 @@ use script_compile::{Client, VariableChange};
 use std::alloc::{AllocError, Global};
 use std::str;
 
-/// `trace IMAGE CLIENT.. [--input FILE] [--step A..B] [--only NAME] [--last N] [--changes]`: prints each step of the clients on the
-/// image, with the registers' contents. Nothing runs unless all of them can.
+/// `trace IMAGE CLIENT.. [--input FILE] [--step A..B] [--only NAME] [--last N] [--changes]`: prints each step of the clients on
+/// the image, with the registers' contents. Nothing runs unless all of them can.
 pub fn trace_files<'a, F: Files, O: Sink, E: Sink>(
     alloc: Global,
     trace: &Trace<'a>,

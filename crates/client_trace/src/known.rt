@@ -30,8 +30,8 @@ impl Known {
     }
 }
 
-/// The instruction in front of which the registers contain what they contain after the instruction at `at`, if the run continues at
-/// `next`.
+/// The instruction in front of which the registers contain what they contain after the instruction at `at`, if the run continues
+/// at `next`.
 pub(crate) fn known_at(instruction: Instruction, at: u16, next: u16) -> u16 {
     match instruction.operation.row().role {
         // a loop continues at its END, where the recorded knowledge is that after the body

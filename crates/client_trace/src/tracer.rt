@@ -174,8 +174,8 @@ impl<'a> Tracer<'a> {
             && (self.view.source.variable(at, register) == name || self.refers(register, at, name))
     }
 
-    /// Whether the register that the instruction at an index set has the variable of the view, or refers into its object. `next` is
-    /// the instruction in front of which the registers contain the same.
+    /// Whether the register that the instruction at an index set has the variable of the view, or refers into its object. `next`
+    /// is the instruction in front of which the registers contain the same.
     fn sets(&self, instruction: Instruction, at: u16, next: u16) -> bool {
         let Some(name) = self.view.only else {
             return true;
