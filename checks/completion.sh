@@ -34,7 +34,7 @@ completes() {
 }
 
 completes run segtool r
-completes "show shrink stat" segtool s
+completes "set show shrink stat" segtool s
 completes run segtool help r
 completes "best seq" segtool new some.image 4096 ""
 completes "flat tree" segtool new --force some.image 4096 best ""
@@ -51,6 +51,7 @@ completes "" segtool trace counter.image --only coun
 completes "--changes --explain --help --input --last --only --step" segtool trace counter.image --
 completes "cache.lez cache.text" segtool run --base 16 cach
 completes "" segtool check counter.image coun
+completes "" segtool get counter.image coun
 completes "--explain --force --help --on" segtool compile count.lez out --
 completes "counter.image" segtool compile count.lez out --on counter
 

@@ -12,6 +12,7 @@ cc -O1 -shared -fPIC -o "$work/refuse.so" "$here/refuse.c" -ldl
 mkdir "$work/files"
 cp "$here"/../examples/{counter.image,increment.client,increment.text,increment.lez} "$work/files"
 "$segtool" new "$work/files/table.image" 1024 best tree
+"$segtool" dump "$work/files/counter.image" > "$work/files/counter.dump"
 
 # makes a new copy of the files
 renew() {
@@ -64,9 +65,18 @@ try run counter.image saved.image increment.client
 try run counter.image table.image increment.client --input increment.text
 try run table.image table.image increment.client --room 4096 --base 64
 try stat counter.image
+try stat counter.image --all
 try list counter.image
+try list counter.image --types
+try types counter.image
 try show counter.image
 try show counter.image x --all
+try get counter.image x
+try set counter.image x 5
+try del counter.image x
+try dump counter.image
+try load counter.dump table.image
+try diff counter.image table.image
 try map counter.image
 try map counter.image --svg heap.svg
 try trace counter.image increment.client

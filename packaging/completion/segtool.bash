@@ -23,7 +23,7 @@ _segtool()
     if [[ -n $skipped ]]; then
         [[ $previous == @(--input|--svg|--on) ]] && files=1
     elif [[ -z $command ]]; then
-        words='new check verify run trace stat list show map grow shrink upgrade asm compile print help'
+        words='new check verify run trace stat list types show get set del dump load diff map grow shrink upgrade asm compile print help'
         [[ $current == -* ]] && words='-h --help -V --version'
     elif [[ $current == -* ]]; then
         case $command in
@@ -32,9 +32,16 @@ _segtool()
             verify) words='--explain -h --help' ;;
             run) words='--base --room --input --force --explain -h --help' ;;
             trace) words='--input --step --only --last --changes --explain -h --help' ;;
-            stat) words='--explain -h --help' ;;
-            list) words='--explain -h --help' ;;
-            show) words='--all --explain -h --help' ;;
+            stat) words='--all --explain -h --help' ;;
+            list) words='--types --explain -h --help' ;;
+            types) words='--explain -h --help' ;;
+            show) words='--all --types --explain -h --help' ;;
+            get) words='--explain -h --help' ;;
+            set) words='--explain -h --help' ;;
+            del) words='--explain -h --help' ;;
+            dump) words='--explain -h --help' ;;
+            load) words='--force --explain -h --help' ;;
+            diff) words='--explain -h --help' ;;
             map) words='--svg --force --explain -h --help' ;;
             grow) words='--explain -h --help' ;;
             shrink) words='--explain -h --help' ;;
@@ -58,7 +65,16 @@ _segtool()
             trace:*) files=1 ;;
             stat:1) files=1 ;;
             list:1) files=1 ;;
+            types:1) files=1 ;;
             show:1) files=1 ;;
+            get:1) files=1 ;;
+            set:1) files=1 ;;
+            del:1) files=1 ;;
+            dump:1) files=1 ;;
+            load:1) files=1 ;;
+            load:2) files=1 ;;
+            diff:1) files=1 ;;
+            diff:2) files=1 ;;
             map:1) files=1 ;;
             grow:1) files=1 ;;
             shrink:1) files=1 ;;
@@ -68,7 +84,7 @@ _segtool()
             compile:1) files=1 ;;
             compile:2) files=1 ;;
             print:1) files=1 ;;
-            help:1) words='new check verify run trace stat list show map grow shrink upgrade asm compile print' ;;
+            help:1) words='new check verify run trace stat list types show get set del dump load diff map grow shrink upgrade asm compile print' ;;
         esac
     fi
     if [[ -n $words ]]; then

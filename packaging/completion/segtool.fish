@@ -41,7 +41,14 @@ complete -c segtool -n 'test -z "$(__segtool_command)"' -a run -d 'Runs clients 
 complete -c segtool -n 'test -z "$(__segtool_command)"' -a trace -d 'Runs clients, prints each step with the registers after it, and saves nothing'
 complete -c segtool -n 'test -z "$(__segtool_command)"' -a stat -d 'Prints the size of a segment, its free memory, and how many objects it has'
 complete -c segtool -n 'test -z "$(__segtool_command)"' -a list -d 'Prints the name, type number and number of values of each object, then the types of unique objects'
+complete -c segtool -n 'test -z "$(__segtool_command)"' -a types -d 'Prints the types of a segment, as the lines that begin a client\'s text'
 complete -c segtool -n 'test -z "$(__segtool_command)"' -a show -d 'Prints the objects of a segment with their values'
+complete -c segtool -n 'test -z "$(__segtool_command)"' -a get -d 'Prints the value of a path: a number, a text, or lines as those of show'
+complete -c segtool -n 'test -z "$(__segtool_command)"' -a set -d 'Sets the number or the text of a path, and rewrites the file'
+complete -c segtool -n 'test -z "$(__segtool_command)"' -a del -d 'Deletes an object, or a key of a map, and rewrites the file'
+complete -c segtool -n 'test -z "$(__segtool_command)"' -a dump -d 'Prints the whole content of a segment as a text that people can read and edit'
+complete -c segtool -n 'test -z "$(__segtool_command)"' -a load -d 'Makes the image of a segment with the content of a text that dump printed'
+complete -c segtool -n 'test -z "$(__segtool_command)"' -a diff -d 'Prints the values in which two images differ, by their paths'
 complete -c segtool -n 'test -z "$(__segtool_command)"' -a map -d 'Prints each block of the heap: its position, its size in units of 16 bytes, its use and its object'
 complete -c segtool -n 'test -z "$(__segtool_command)"' -a grow -d 'Adds free memory at the end of a segment, rewrites the file and prints the new size'
 complete -c segtool -n 'test -z "$(__segtool_command)"' -a shrink -d 'Removes the free memory at the end of a segment, rewrites the file and prints the new size'
@@ -87,18 +94,52 @@ complete -c segtool -n 'test "$(__segtool_command)" = trace' -s h -l help -d 'Pr
 complete -c segtool -n '__segtool_at trace 1' -F
 complete -c segtool -n '__segtool_at trace 2 +' -F
 
+complete -c segtool -n 'test "$(__segtool_command)" = stat' -l all -d 'Also print the version, the allocator, the index, the number of types and blocks, and fragmentation'
 complete -c segtool -n 'test "$(__segtool_command)" = stat' -l explain -d 'After a failure, also print what is wrong, where, and what would be right'
 complete -c segtool -n 'test "$(__segtool_command)" = stat' -s h -l help -d 'Print help'
 complete -c segtool -n '__segtool_at stat 1' -F
 
+complete -c segtool -n 'test "$(__segtool_command)" = list' -l types -d 'Also print each object\'s type in words'
 complete -c segtool -n 'test "$(__segtool_command)" = list' -l explain -d 'After a failure, also print what is wrong, where, and what would be right'
 complete -c segtool -n 'test "$(__segtool_command)" = list' -s h -l help -d 'Print help'
 complete -c segtool -n '__segtool_at list 1' -F
 
+complete -c segtool -n 'test "$(__segtool_command)" = types' -l explain -d 'After a failure, also print what is wrong, where, and what would be right'
+complete -c segtool -n 'test "$(__segtool_command)" = types' -s h -l help -d 'Print help'
+complete -c segtool -n '__segtool_at types 1' -F
+
 complete -c segtool -n 'test "$(__segtool_command)" = show' -l all -d 'Print long texts, long containers and deeply nested values in full'
+complete -c segtool -n 'test "$(__segtool_command)" = show' -l types -d 'Print each object\'s type after its name, in words'
 complete -c segtool -n 'test "$(__segtool_command)" = show' -l explain -d 'After a failure, also print what is wrong, where, and what would be right'
 complete -c segtool -n 'test "$(__segtool_command)" = show' -s h -l help -d 'Print help'
 complete -c segtool -n '__segtool_at show 1' -F
+
+complete -c segtool -n 'test "$(__segtool_command)" = get' -l explain -d 'After a failure, also print what is wrong, where, and what would be right'
+complete -c segtool -n 'test "$(__segtool_command)" = get' -s h -l help -d 'Print help'
+complete -c segtool -n '__segtool_at get 1' -F
+
+complete -c segtool -n 'test "$(__segtool_command)" = set' -l explain -d 'After a failure, also print what is wrong, where, and what would be right'
+complete -c segtool -n 'test "$(__segtool_command)" = set' -s h -l help -d 'Print help'
+complete -c segtool -n '__segtool_at set 1' -F
+
+complete -c segtool -n 'test "$(__segtool_command)" = del' -l explain -d 'After a failure, also print what is wrong, where, and what would be right'
+complete -c segtool -n 'test "$(__segtool_command)" = del' -s h -l help -d 'Print help'
+complete -c segtool -n '__segtool_at del 1' -F
+
+complete -c segtool -n 'test "$(__segtool_command)" = dump' -l explain -d 'After a failure, also print what is wrong, where, and what would be right'
+complete -c segtool -n 'test "$(__segtool_command)" = dump' -s h -l help -d 'Print help'
+complete -c segtool -n '__segtool_at dump 1' -F
+
+complete -c segtool -n 'test "$(__segtool_command)" = load' -l force -d 'Overwrite a file even if it isn\'t an image'
+complete -c segtool -n 'test "$(__segtool_command)" = load' -l explain -d 'After a failure, also print what is wrong, where, and what would be right'
+complete -c segtool -n 'test "$(__segtool_command)" = load' -s h -l help -d 'Print help'
+complete -c segtool -n '__segtool_at load 1' -F
+complete -c segtool -n '__segtool_at load 2' -F
+
+complete -c segtool -n 'test "$(__segtool_command)" = diff' -l explain -d 'After a failure, also print what is wrong, where, and what would be right'
+complete -c segtool -n 'test "$(__segtool_command)" = diff' -s h -l help -d 'Print help'
+complete -c segtool -n '__segtool_at diff 1' -F
+complete -c segtool -n '__segtool_at diff 2' -F
 
 complete -c segtool -n 'test "$(__segtool_command)" = map' -l svg -r -F -d 'Write a picture to this file instead of printing'
 complete -c segtool -n 'test "$(__segtool_command)" = map' -l force -d 'Overwrite a file even if it isn\'t an SVG picture'
@@ -135,4 +176,4 @@ complete -c segtool -n 'test "$(__segtool_command)" = print' -l explain -d 'Afte
 complete -c segtool -n 'test "$(__segtool_command)" = print' -s h -l help -d 'Print help'
 complete -c segtool -n '__segtool_at print 1' -F
 
-complete -c segtool -n '__segtool_at help 1' -a 'new check verify run trace stat list show map grow shrink upgrade asm compile print' -d 'A command'
+complete -c segtool -n '__segtool_at help 1' -a 'new check verify run trace stat list types show get set del dump load diff map grow shrink upgrade asm compile print' -d 'A command'

@@ -1,21 +1,12 @@
 //! The library calls that the commands make. They have no contracts here: the commands are tested, not proved.
 
 use cli_program::Failure;
+pub(crate) use cli_values::{assembled, checked, created, grown, parsed, shrunk};
 use lezgauri::{
-    AllocatorKind, Client, Fault, Image, IndexKind, Ready, TypeTable, Verified, assemble, check,
-    parse, parse_typed, prepare, print, verify, verify_typed,
+    Fault, Image, Ready, TypeTable, Verified, parse_typed, prepare, print, verify, verify_typed,
 };
 use script_compile::{Refusal, client_of};
 use std::alloc::Global;
-
-pub(crate) fn created(
-    alloc: Global,
-    size: u32,
-    allocator: AllocatorKind,
-    index: IndexKind,
-) -> Result<Image<Global>, Fault> {
-    Image::create(alloc, size, allocator, index)
-}
 
 /// An image after it is opened, or its first fault.
 pub(crate) fn opened(alloc: Global, bytes: Vec<u8>) -> Result<Image<Global>, Fault> {
@@ -23,21 +14,6 @@ pub(crate) fn opened(alloc: Global, bytes: Vec<u8>) -> Result<Image<Global>, Fau
         Ok(image) => Ok(image),
         Err(unopened) => Err(unopened.fault),
     }
-}
-
-/// The types of a sound image, or its first fault.
-pub(crate) fn checked(alloc: Global, bytes: &[u8]) -> Result<TypeTable, Fault> {
-    check(alloc, bytes)
-}
-
-/// Grows the segment by `extra` bytes, and returns the new size in bytes.
-pub(crate) fn grown(image: &mut Image<Global>, extra: u32) -> Result<u32, Fault> {
-    image.grow(extra)
-}
-
-/// Cuts off the free memory at the end, and returns the new size in bytes.
-pub(crate) fn shrunk(image: &mut Image<Global>) -> u32 {
-    image.shrink()
 }
 
 /// A client that is verified for an image.
@@ -60,11 +36,6 @@ pub(crate) fn ready<'a>(
     Ok(prepare(alloc, verified(image, client)?)?)
 }
 
-/// The client that a text assembles to.
-pub(crate) fn assembled(alloc: Global, text: &[u8]) -> Result<Vec<u8>, Fault> {
-    assemble(alloc, text)
-}
-
 /// The client of the program in a file with this name, for an image with these types.
 pub(crate) fn compiled<'a>(
     alloc: Global,
@@ -83,9 +54,4 @@ pub(crate) fn compiled<'a>(
 pub(crate) fn printed(alloc: Global, client: &[u8]) -> Result<Vec<u8>, Fault> {
     let client = parsed(client)?;
     print(alloc, &client)
-}
-
-/// A client that is read from its file.
-pub(crate) fn parsed(client: &[u8]) -> Result<Client<'_>, Fault> {
-    parse(client)
 }

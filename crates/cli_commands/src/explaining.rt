@@ -5,7 +5,7 @@ use crate::programs::compiled_again;
 use cli_explain::{Sources, explain};
 use cli_host::{Files, ImageTask, Request, read_file, read_files, read_image};
 use cli_program::{Failure, slices, tell};
-use lezgauri::{Refused, Sink};
+use lezgauri::{Fault, Refused, Sink};
 use std::alloc::{AllocError, Global};
 
 /// Explains why a command failed, in words. For that it reads the files again, and leaves out a file that can't be read any more.
@@ -31,11 +31,13 @@ fn words_of<'a, F: Files>(
     files: &mut F,
 ) -> Result<Vec<u8>, AllocError> {
     match failure {
+        Failure::Refused(refused) if is_wrong_dump(request, refused) => wrong_dump(alloc, refused),
         Failure::Refused(refused) => {
             let read = Read::again(alloc, request, files)?;
             explained(alloc, refused, &read)
         }
-        Failure::Absent(name) => absent(alloc, name),
+        Failure::Absent(name) => absent(alloc, name, request),
+        Failure::Full(name) => full(alloc, name),
         Failure::File(name, problem) => told(alloc, name, *problem),
         Failure::Output => Vec::from_slice(alloc, failed_output(request).as_bytes()),
         Failure::Words(_) | Failure::Program(_) => Ok(Vec::new(alloc)),
@@ -104,6 +106,8 @@ fn text_of<'a>(request: &Request<'a>) -> Option<&'a str> {
         Request::Assemble(assembly) => Some(assembly.text),
         Request::New(_)
         | Request::Image { .. }
+        | Request::Compare { .. }
+        | Request::Load(_)
         | Request::Verify { .. }
         | Request::Run(_)
         | Request::RunPrograms(_)
@@ -122,9 +126,12 @@ fn image_of<'a>(request: &Request<'a>) -> Option<&'a str> {
         Request::Run(run) | Request::RunPrograms(run) => Some(run.image),
         Request::Trace(trace) => Some(trace.image),
         Request::Compile(compilation) => compilation.image,
-        Request::New(_) | Request::Assemble(_) | Request::Print { .. } | Request::Help(_) => {
-            None
-        }
+        Request::New(_)
+        | Request::Compare { .. }
+        | Request::Load(_)
+        | Request::Assemble(_)
+        | Request::Print { .. }
+        | Request::Help(_) => None,
     }
 }
 
@@ -140,13 +147,57 @@ fn clients_of<'a>(alloc: Global, request: &Request<'a>) -> Result<Vec<&'a str>, 
         }
         Request::New(_)
         | Request::Image { .. }
+        | Request::Compare { .. }
+        | Request::Load(_)
         | Request::Assemble(_)
         | Request::Compile(_)
         | Request::Help(_) => Ok(Vec::new(alloc)),
     }
 }
 
-fn absent(alloc: Global, name: &str) -> Result<Vec<u8>, AllocError> {
+/// Whether a line of a dump is wrong.
+fn is_wrong_dump(request: &Request, refused: &Refused) -> bool {
+    matches!(request, Request::Load(_)) && matches!(refused.fault, Fault::BadLine(_))
+}
+
+fn wrong_dump(alloc: Global, refused: &Refused) -> Result<Vec<u8>, AllocError> {
+    let line = match refused.fault {
+        Fault::BadLine(line) => line,
+        _ => 0,
+    };
+    let words = format!(in alloc;
+        "line {line} of the text isn't one that may come there: `segtool dump` prints such texts\n"
+    )?;
+    Ok(words.into_bytes())
+}
+
+/// Why nothing has a name or a path.
+fn absent(alloc: Global, name: &str, request: &Request) -> Result<Vec<u8>, AllocError> {
+    match request {
+        Request::Image {
+            task: ImageTask::Get { .. } | ImageTask::Set { .. } | ImageTask::Delete { .. },
+            ..
+        } => absent_value(alloc, name),
+        _ => absent_object(alloc, name),
+    }
+}
+
+fn absent_value(alloc: Global, path: &str) -> Result<Vec<u8>, AllocError> {
+    let words = format!(in alloc;
+        "no value of the image has the path `{path}`: a name, or `unique tT`, and steps: [N] is an item or a key, .N a field, \
+.content the object of an own; `segtool show` prints all values\n"
+    )?;
+    Ok(words.into_bytes())
+}
+
+fn full(alloc: Global, name: &str) -> Result<Vec<u8>, AllocError> {
+    let words = format!(in alloc;
+        "no free block of the segment is large enough for `{name}`, and nothing was written; `segtool grow` adds memory\n"
+    )?;
+    Ok(words.into_bytes())
+}
+
+fn absent_object(alloc: Global, name: &str) -> Result<Vec<u8>, AllocError> {
     let words = format!(in alloc;
         "no object of the image has the name `{name}`; `segtool list` prints those that it has\n"
     )?;
@@ -165,6 +216,8 @@ fn failed_output(request: &Request) -> &'static str {
         } => "the output couldn't be written; the image was saved, unless its file failed too\n",
         Request::New(_)
         | Request::Image { .. }
+        | Request::Compare { .. }
+        | Request::Load(_)
         | Request::Verify { .. }
         | Request::Trace(_)
         | Request::Assemble(_)

@@ -2,13 +2,15 @@
 
 ghost use Rattle.std.specs.Prelude.{◌≡◌, false};
 
+use crate::door::opened;
 use crate::made::{Made, made_of, new_image};
 use cli_host::{
-    FileFailure, Files, Format, ImageTask, NewImage, Picture, read_image, refuse_input,
+    FileFailure, Files, Format, ImageTask, Load, NewImage, Picture, read_image, refuse_input,
     refuse_other_format, write_file,
 };
 use cli_program::{Failure, print};
-use lezgauri::Sink;
+use cli_values::{Unloaded, differences, loaded};
+use lezgauri::{Fault, Sink};
 use std::alloc::Global;
 
 /// `new FILE SIZE ALG INDEX [--force]`: writes the image of an empty segment.
@@ -22,6 +24,47 @@ pub fn new_file<'a, F: Files>(
     }
     let image = new_image(alloc, new)?;
     Ok(write_file(files, new.file, image.as_slice())?)
+}
+
+/// `diff FILE OTHER`: prints the values in which two images differ.
+pub fn compare_files<'a, F: Files, O: Sink>(
+    alloc: Global,
+    one: &'a str,
+    other: &'a str,
+    files: &mut F,
+    out: &mut O,
+) -> Result<(), Failure<'a>>
+    requires works { O.has_failed out.old ≡ false }
+{
+    let one = read_image(alloc, files, one)?;
+    let other = read_image(alloc, files, other)?;
+    let text = compared(alloc, one, other)?;
+    print(out, text.as_slice())
+}
+
+/// The lines of the differences between two images.
+fn compared(alloc: Global, one: Vec<u8>, other: Vec<u8>) -> Result<Vec<u8>, Fault> {
+    let (one, other) = (opened(alloc, one)?, opened(alloc, other)?);
+    Ok(differences(alloc, &one, &other)?)
+}
+
+/// `load TEXT FILE [--force]`: makes the image that a dump describes. Refuses to write over the text, and without `--force` over
+/// a file that isn't an image.
+pub fn load_file<'a, F: Files>(
+    alloc: Global,
+    load: &Load<'a>,
+    files: &mut F,
+) -> Result<(), Failure<'a>> {
+    let text = read_image(alloc, files, load.text)?;
+    refuse_input(files, load.image, load.text)?;
+    if !load.forced {
+        refuse_other_format(alloc, files, load.image, Format::Image)?;
+    }
+    match loaded(alloc, text.as_slice()) {
+        Ok(image) => Ok(write_file(files, load.image, image.as_slice())?),
+        Err(Unloaded::Full) => Err(Failure::Full(load.image)),
+        Err(Unloaded::Fault(fault)) => Err(Failure::from(fault)),
+    }
 }
 
 /// The commands on one image: prints the task's text, writes its picture if it has one, and rewrites the image's file if the
@@ -66,9 +109,14 @@ fn picture_of<'a>(task: ImageTask<'a>) -> Option<Picture<'a>> {
     match task {
         ImageTask::Picture(picture) => Some(picture),
         ImageTask::Check
-        | ImageTask::Stat
-        | ImageTask::List
+        | ImageTask::Stat { .. }
+        | ImageTask::List { .. }
+        | ImageTask::Types
         | ImageTask::Show { .. }
+        | ImageTask::Get { .. }
+        | ImageTask::Dump
+        | ImageTask::Set { .. }
+        | ImageTask::Delete { .. }
         | ImageTask::Map
         | ImageTask::Grow { .. }
         | ImageTask::Shrink

@@ -3,6 +3,7 @@
 
 mod clients;
 mod door;
+mod editing;
 mod explaining;
 mod images;
 mod listing;

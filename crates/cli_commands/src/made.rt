@@ -1,7 +1,11 @@
 use crate::door::{created, grown, opened, shrunk};
-use crate::listing::{blocks, objects, pictured, shown, size, statistics};
+use crate::editing::{delete_value, set_value};
+use crate::listing::{
+    all_statistics, blocks, detail, objects, pictured, shown, size, statistics, types, values,
+};
 use cli_host::{Allocator, ImageTask, Index, NewImage};
 use cli_program::Failure;
+use cli_values::dumped;
 use lezgauri::{AllocatorKind, Fault, Image, IndexKind};
 use std::alloc::{AllocError, Global};
 
@@ -13,12 +17,26 @@ pub struct Made {
 }
 
 /// Why a task on an image has no result.
-#[derive(Clone, Copy)]
+#[derive(Drop)]
 pub enum Unmade<'a> {
     /// A fault of the image, or of the task's arguments.
     Fault(Fault),
-    /// No object has this name.
+    /// No object has this name, or no value has this path.
     Absent(&'a str),
+    /// No free block of the segment is large enough for the value with this path.
+    Full(&'a str),
+    /// The arguments don't fit the image, for this reason.
+    Words(String),
+}
+
+impl Unmade<'_> {
+    /// That the arguments don't fit the image, for a reason.
+    pub(crate) fn words(alloc: Global, reason: &str) -> Self {
+        match format!(in alloc; "error: {reason}\n") {
+            Ok(words) => Unmade::Words(words),
+            Err(_) => Unmade::Fault(Fault::Memory),
+        }
+    }
 }
 
 impl From<Fault> for Unmade<'_> {
@@ -32,6 +50,8 @@ impl<'a> From<Unmade<'a>> for Failure<'a> {
         match unmade {
             Unmade::Fault(fault) => Failure::from(fault),
             Unmade::Absent(name) => Failure::Absent(name),
+            Unmade::Full(name) => Failure::Full(name),
+            Unmade::Words(words) => Failure::Words(words),
         }
     }
 }
@@ -57,8 +77,9 @@ pub fn new_image(alloc: Global, new: &NewImage) -> Result<Vec<u8>, Fault> {
 
 /// Does a task on an image.
 pub fn made_of<'a>(alloc: Global, bytes: Vec<u8>, task: ImageTask<'a>) -> Result<Made, Unmade<'a>> {
+    let version = version_of(bytes.as_slice());
     let mut image = opened(alloc, bytes)?;
-    let text = text_of(alloc, &mut image, task)?;
+    let text = text_of(alloc, &mut image, version, task)?;
     let image = if is_change(task) {
         Some(image.into_bytes())
     } else {
@@ -67,17 +88,32 @@ pub fn made_of<'a>(alloc: Global, bytes: Vec<u8>, task: ImageTask<'a>) -> Result
     Ok(Made { text, image })
 }
 
-/// Does a task, and returns the text to print.
+/// The version of an image, if the bytes are one.
+fn version_of(bytes: &[u8]) -> u32 {
+    match bytes.get(8..12) {
+        Some([a, b, c, d]) => u32::from_le_bytes([*a, *b, *c, *d]),
+        Some(_) | None => 0,
+    }
+}
+
+/// Does a task, and returns the text to print. The image's file has this version.
 fn text_of<'a>(
     alloc: Global,
     image: &mut Image<Global>,
+    version: u32,
     task: ImageTask<'a>,
 ) -> Result<Vec<u8>, Unmade<'a>> {
     match task {
         ImageTask::Check => Ok(Vec::from_slice(alloc, b"ok\n")?),
-        ImageTask::Stat => Ok(statistics(alloc, image)?),
-        ImageTask::List => Ok(objects(alloc, image)?),
-        ImageTask::Show { name, whole } => shown(alloc, image, name, whole),
+        ImageTask::Stat { all: false } => Ok(statistics(alloc, image)?),
+        ImageTask::Stat { all: true } => Ok(all_statistics(alloc, image, version)?),
+        ImageTask::List { typed } => Ok(objects(alloc, image, typed)?),
+        ImageTask::Types => Ok(types(alloc, image)?),
+        ImageTask::Show { name, whole, typed } => shown(alloc, image, name, detail(whole, typed)),
+        ImageTask::Get { path } => values(alloc, image, path),
+        ImageTask::Set { path, value } => set_value(alloc, image, path, value),
+        ImageTask::Delete { path } => delete_value(alloc, image, path),
+        ImageTask::Dump => Ok(dumped(alloc, image)?),
         ImageTask::Map => Ok(blocks(alloc, image)?),
         ImageTask::Picture(_) => Ok(pictured(alloc, image)?),
         ImageTask::Grow { extra } => Ok(size(alloc, grown(image, extra)?)?),
@@ -90,11 +126,18 @@ fn text_of<'a>(
 /// Whether a task changes the image.
 fn is_change(task: ImageTask) -> bool {
     match task {
-        ImageTask::Grow { .. } | ImageTask::Shrink | ImageTask::Upgrade => true,
+        ImageTask::Set { .. }
+        | ImageTask::Delete { .. }
+        | ImageTask::Grow { .. }
+        | ImageTask::Shrink
+        | ImageTask::Upgrade => true,
         ImageTask::Check
-        | ImageTask::Stat
-        | ImageTask::List
+        | ImageTask::Stat { .. }
+        | ImageTask::List { .. }
+        | ImageTask::Types
         | ImageTask::Show { .. }
+        | ImageTask::Get { .. }
+        | ImageTask::Dump
         | ImageTask::Map
         | ImageTask::Picture(_) => false,
     }

@@ -4,7 +4,7 @@ ghost use Rattle.cli_commands.specs.Requests.{OfRun};
 
 use crate::clients::{assemble_file, print_file, verify_file};
 use crate::explaining::explain_failure;
-use crate::images::{image_file, new_file};
+use crate::images::{compare_files, image_file, load_file, new_file};
 use crate::programs::{compile_file, run_programs};
 use crate::traces::trace_files;
 use cli_host::{Asked, Files, Request};
@@ -81,6 +81,8 @@ fn perform<'a, F: Files, O: Sink, E: Sink>(
     match &asked.request {
         Request::New(new) => new_file(alloc, new, files),
         Request::Image { file, task } => image_file(alloc, file, *task, files, out),
+        Request::Compare { one, other } => compare_files(alloc, one, other, files, out),
+        Request::Load(load) => load_file(alloc, load, files),
         Request::Verify { image, client } => {
             verify_file(alloc, image, client, asked.explained, files, out, err)
         }

@@ -80,17 +80,90 @@ const TRACE: [Argument; 7] = [
     },
 ];
 
-const SHOW: [Argument; 3] = [
+const STAT: [Argument; 2] = [
+    IMAGE,
+    Argument {
+        id: "all",
+        takes: Takes::Flag,
+        help: "Also print the version, the allocator, the index, the number of types and blocks, and fragmentation",
+    },
+];
+
+const LIST: [Argument; 2] = [
+    IMAGE,
+    Argument {
+        id: "types",
+        takes: Takes::Flag,
+        help: "Also print each object's type in words",
+    },
+];
+
+const SHOW: [Argument; 4] = [
     IMAGE,
     Argument {
         id: "NAME",
         takes: Takes::Optional,
-        help: "The name of an object [default: all objects]",
+        help: "The name of an object, or a pattern of names with * and ? [default: all objects]",
     },
     Argument {
         id: "all",
         takes: Takes::Flag,
         help: "Print long texts, long containers and deeply nested values in full",
+    },
+    Argument {
+        id: "types",
+        takes: Takes::Flag,
+        help: "Print each object's type after its name, in words",
+    },
+];
+
+const PATH: Argument = Argument {
+    id: "PATH",
+    takes: Takes::Word,
+    help: "The path of a value: an object's name and steps, such as users[3].0",
+};
+
+const GET: [Argument; 2] = [IMAGE, PATH];
+
+const SET: [Argument; 3] = [
+    IMAGE,
+    PATH,
+    Argument {
+        id: "VALUE",
+        takes: Takes::Value,
+        help: "A number, or the bytes of a text, in which two hexadecimal digits follow each backslash",
+    },
+];
+
+const DELETE: [Argument; 2] = [
+    IMAGE,
+    Argument {
+        id: "PATH",
+        takes: Takes::Word,
+        help: "The name of an object, or the path of a key in a map, such as prices[7]",
+    },
+];
+
+const LOAD: [Argument; 3] = [
+    Argument {
+        id: "TEXT",
+        takes: Takes::Word,
+        help: "The file of the text that dump printed",
+    },
+    Argument {
+        id: "FILE",
+        takes: Takes::Word,
+        help: "The file to which the image is written",
+    },
+    FORCE,
+];
+
+const COMPARE: [Argument; 2] = [
+    IMAGE,
+    Argument {
+        id: "OTHER",
+        takes: Takes::Word,
+        help: "The file of the image to compare it with",
     },
 ];
 
@@ -158,8 +231,10 @@ const COMPILE: [Argument; 4] = [
     },
 ];
 
-/// The commands, in the order of the help text.
-const LINES: &[CommandRow] = &[
+// Each table is read by a function of its own: one table of all commands is more than the prover gets through.
+
+/// The commands that make, check and run. The help text has the tables in the order of this file.
+static RUNNING: &[CommandRow] = &[
     CommandRow {
         name: "new",
         about: "Makes the image of an empty segment",
@@ -190,24 +265,74 @@ const LINES: &[CommandRow] = &[
         arguments: &TRACE,
         examples: "Examples:\n  segtool trace shop.image stock.client\n  segtool trace shop.image sell.client --input orders.txt\n  segtool trace shop.image stock.client sell.client --only prices --changes\n  segtool trace shop.image bytes.lez --step 100..120\n\nOf several clients each line begins with the client's number, from 0.",
     },
+];
+
+/// The commands on what a segment contains.
+static CONTENT: &[CommandRow] = &[
     CommandRow {
         name: "stat",
         about: "Prints the size of a segment, its free memory, and how many objects it has",
-        arguments: &[IMAGE],
+        arguments: &STAT,
         examples: "Example:\n  segtool stat shop.image",
     },
     CommandRow {
         name: "list",
         about: "Prints the name, type number and number of values of each object, then the types of unique objects",
+        arguments: &LIST,
+        examples: "Examples:\n  segtool list shop.image\n  segtool list shop.image --types",
+    },
+    CommandRow {
+        name: "types",
+        about: "Prints the types of a segment, as the lines that begin a client's text",
         arguments: &[IMAGE],
-        examples: "Example:\n  segtool list shop.image",
+        examples: "Example:\n  segtool types shop.image",
     },
     CommandRow {
         name: "show",
         about: "Prints the objects of a segment with their values",
         arguments: &SHOW,
-        examples: "Examples:\n  segtool show shop.image\n  segtool show shop.image prices --all",
+        examples: "Examples:\n  segtool show shop.image\n  segtool show shop.image prices --all\n  segtool show shop.image 'user#*' --types",
     },
+    CommandRow {
+        name: "get",
+        about: "Prints the value of a path: a number, a text, or lines as those of show",
+        arguments: &GET,
+        examples: "Examples:\n  segtool get shop.image visits\n  segtool get shop.image 'users[3].0'\n\n[N] is an item of a vector or a list, the value of a key, or one of an object's values;\n.N is a field of a struct; .content is the object of an own or of a shared cell.",
+    },
+    CommandRow {
+        name: "set",
+        about: "Sets the number or the text of a path, and rewrites the file",
+        arguments: &SET,
+        examples: "Examples:\n  segtool set shop.image visits 0\n  segtool set shop.image 'prices[7]' -12\n  segtool set shop.image greeting 'good morning'\n\nA missing key is added, and an item if the index is the number of items.",
+    },
+    CommandRow {
+        name: "del",
+        about: "Deletes an object, or a key of a map, and rewrites the file",
+        arguments: &DELETE,
+        examples: "Examples:\n  segtool del shop.image visits\n  segtool del shop.image 'prices[7]'",
+    },
+    CommandRow {
+        name: "dump",
+        about: "Prints the whole content of a segment as a text that people can read and edit",
+        arguments: &[IMAGE],
+        examples: "Example:\n  segtool dump shop.image > shop.dump",
+    },
+    CommandRow {
+        name: "load",
+        about: "Makes the image of a segment with the content of a text that dump printed",
+        arguments: &LOAD,
+        examples: "Example:\n  segtool load shop.dump shop.image\n\nThe first line has the size; a segment in which the content doesn't fit is made larger.",
+    },
+    CommandRow {
+        name: "diff",
+        about: "Prints the values in which two images differ, by their paths",
+        arguments: &COMPARE,
+        examples: "Example:\n  segtool diff shop.image saved.image\n\nLines with - are values of FILE, lines with + values of OTHER. Without differences nothing is printed.",
+    },
+];
+
+/// The commands on a heap and on client files.
+static HEAP_AND_CLIENTS: &[CommandRow] = &[
     CommandRow {
         name: "map",
         about: "Prints each block of the heap: its position, its size in units of 16 bytes, its use and its object",
@@ -265,10 +390,35 @@ pub fn command_line<'a>(alloc: Global) -> Result<Command<'a>, AllocError> {
         .after_help(STATUSES)
         .subcommand_required(true)
         .arg_required_else_help(true);
-    for line in LINES {
+    for table in [running(), content(), heap_and_clients()] {
+        program = with_commands(alloc, program, table)?;
+    }
+    Ok(program)
+}
+
+/// Adds the commands of a table.
+fn with_commands<'a>(
+    alloc: Global,
+    program: Command<'a>,
+    table: &'static [CommandRow],
+) -> Result<Command<'a>, AllocError> {
+    let mut program = program;
+    for line in table {
         program = program.subcommand(command(alloc, line)?)?;
     }
     Ok(program)
+}
+
+fn running() -> &'static [CommandRow] {
+    RUNNING
+}
+
+fn content() -> &'static [CommandRow] {
+    CONTENT
+}
+
+fn heap_and_clients() -> &'static [CommandRow] {
+    HEAP_AND_CLIENTS
 }
 
 fn command<'a>(alloc: Global, line: &'static CommandRow) -> Result<Command<'a>, AllocError> {

@@ -21,6 +21,8 @@ pub struct Argument {
 /// What an argument takes. All but options and `Optional` are required.
 pub enum Takes {
     Word,
+    /// A word that may be a negative number.
+    Value,
     /// An argument that may be left out.
     Optional,
     Words,
@@ -52,6 +54,7 @@ pub fn parser_of<'a>(alloc: Global, argument: &'static Argument) -> Arg<'a> {
     let plain = Arg::new(alloc, argument.id).help(argument.help);
     match argument.takes {
         Takes::Word => plain.required(true),
+        Takes::Value => plain.required(true).allow_negative_numbers(true),
         Takes::Optional => plain,
         Takes::Words => plain.required(true).num_args(ValueRange::new(1..)),
         Takes::OneOf(words) => plain.required(true).value_parser(ValueParser::Names(words)),

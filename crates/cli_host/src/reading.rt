@@ -1,6 +1,6 @@
 use crate::command_line::command_line;
 use crate::request::{
-    Allocator, Asked, Assembly, Compilation, ImageTask, Index, NewImage, Picture, Request,
+    Allocator, Asked, Assembly, Compilation, ImageTask, Index, Load, NewImage, Picture, Request,
 };
 use crate::tracing::trace_of;
 use crate::{Misread, Run, has_program, number, run_of, word};
@@ -61,11 +61,17 @@ fn run_request(run: Run<'_>) -> Request<'_> {
 fn task_of<'a>(command: &str, arguments: &ArgMatches<'a>) -> Option<ImageTask<'a>> {
     match command {
         "check" => Some(ImageTask::Check),
-        "stat" => Some(ImageTask::Stat),
-        "list" => Some(ImageTask::List),
+        "stat" => Some(ImageTask::Stat {
+            all: arguments.get_flag("all"),
+        }),
+        "list" => Some(ImageTask::List {
+            typed: arguments.get_flag("types"),
+        }),
+        "types" => Some(ImageTask::Types),
         "show" => Some(ImageTask::Show {
             name: arguments.get_str("NAME"),
             whole: arguments.get_flag("all"),
+            typed: arguments.get_flag("types"),
         }),
         "map" => Some(match arguments.get_str("svg") {
             Some(file) => ImageTask::Picture(Picture {
@@ -73,6 +79,17 @@ fn task_of<'a>(command: &str, arguments: &ArgMatches<'a>) -> Option<ImageTask<'a
                 forced: arguments.get_flag("force"),
             }),
             None => ImageTask::Map,
+        }),
+        "dump" => Some(ImageTask::Dump),
+        "get" => Some(ImageTask::Get {
+            path: word(arguments, "PATH"),
+        }),
+        "set" => Some(ImageTask::Set {
+            path: word(arguments, "PATH"),
+            value: word(arguments, "VALUE"),
+        }),
+        "del" => Some(ImageTask::Delete {
+            path: word(arguments, "PATH"),
         }),
         "grow" => Some(ImageTask::Grow {
             extra: number(arguments, "EXTRA"),
@@ -83,13 +100,22 @@ fn task_of<'a>(command: &str, arguments: &ArgMatches<'a>) -> Option<ImageTask<'a
     }
 }
 
-/// The request of a command with a client.
+/// The request of a command with several files.
 fn client_request<'a>(alloc: Global, command: &str, arguments: &ArgMatches<'a>) -> Request<'a> {
     match command {
         "verify" => Request::Verify {
             image: word(arguments, "FILE"),
             client: word(arguments, "CLIENT"),
         },
+        "diff" => Request::Compare {
+            one: word(arguments, "FILE"),
+            other: word(arguments, "OTHER"),
+        },
+        "load" => Request::Load(Load {
+            text: word(arguments, "TEXT"),
+            image: word(arguments, "FILE"),
+            forced: arguments.get_flag("force"),
+        }),
         "asm" => Request::Assemble(Assembly {
             text: word(arguments, "TEXT"),
             client: word(arguments, "OUT"),

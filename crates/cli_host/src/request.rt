@@ -14,6 +14,9 @@ pub enum Request<'a> {
     New(NewImage<'a>),
     /// A task on the image in a file.
     Image { file: &'a str, task: ImageTask<'a> },
+    /// Compare two images.
+    Compare { one: &'a str, other: &'a str },
+    Load(Load<'a>),
     Verify { image: &'a str, client: &'a str },
     Run(Run<'a>),
     /// Run clients of which some are programs.
@@ -30,16 +33,46 @@ pub enum Request<'a> {
 #[derive(Clone, Copy)]
 pub enum ImageTask<'a> {
     Check,
-    Stat,
-    List,
-    /// Show its objects with their values: all objects, or the one with a name; everything, or without long and deep parts.
-    Show { name: Option<&'a str>, whole: bool },
+    /// Print its numbers; if `all`, further ones too.
+    Stat {
+        all: bool,
+    },
+    /// List its objects; if `typed`, with their types in words.
+    List {
+        typed: bool,
+    },
+    /// Print its types.
+    Types,
+    /// Show its objects with their values: all objects, or the one with a name; everything, or without long and deep parts; if
+    /// `typed`, with their types in words.
+    Show {
+        name: Option<&'a str>,
+        whole: bool,
+        typed: bool,
+    },
+    /// Print the value of a path.
+    Get {
+        path: &'a str,
+    },
+    /// Set the number or the text at a path.
+    Set {
+        path: &'a str,
+        value: &'a str,
+    },
+    /// Delete an object, or a key of a map.
+    Delete {
+        path: &'a str,
+    },
+    /// Print its content as a text that can be loaded.
+    Dump,
     /// Show its heap, block by block.
     Map,
     /// Draw its heap.
     Picture(Picture<'a>),
     /// Grow it by this many bytes.
-    Grow { extra: u32 },
+    Grow {
+        extra: u32,
+    },
     Shrink,
     /// Upgrade it to version 2.
     Upgrade,
@@ -75,6 +108,15 @@ pub struct NewImage<'a> {
 pub struct Picture<'a> {
     pub file: &'a str,
     /// Whether `file` is overwritten even if it isn't a picture.
+    pub forced: bool,
+}
+
+/// A dump to load into an image.
+#[derive(Clone, Copy)]
+pub struct Load<'a> {
+    pub text: &'a str,
+    pub image: &'a str,
+    /// Whether `image` is overwritten even if it isn't an image.
     pub forced: bool,
 }
 

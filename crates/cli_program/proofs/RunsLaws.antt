@@ -32,6 +32,7 @@ module _ (run : Run) (it : Read) (writes writes_then : Option (List Access)) (ta
   failed_save saved reports ended (failure.Words text) outcome h = absurd h
   failed_save saved reports ended (failure.Program text) outcome h = absurd h
   failed_save saved reports ended (failure.Absent name) outcome h = absurd h
+  failed_save saved reports ended (failure.Full name) outcome h = absurd h
   failed_save saved reports ended (failure.Refused refused) outcome h = (h.0, inl h.1)
   failed_save saved reports ended (failure.File name problem) outcome h = h
   failed_save saved reports ended failure.Output outcome h = record {
@@ -72,6 +73,7 @@ module _ (run : Run) (it : Read) (reads reads_then writes writes_then : Option (
   failed_of (failure.Words text) h = absurd h
   failed_of (failure.Program text) h = absurd h
   failed_of (failure.Absent name) h = absurd h
+  failed_of (failure.Full name) h = absurd h
   failed_of (failure.Refused refused) h = (h.0, refused_of refused h.1)
   failed_of (failure.File name problem) h = h
   failed_of failure.Output h = record {

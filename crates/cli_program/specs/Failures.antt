@@ -26,6 +26,7 @@ abbrev pub IsUnsaved : Option (List Access) → Option (List Access) → Access 
 IsUnsaved before after saved ended (failure.Words text) = ⊥
 IsUnsaved before after saved ended (failure.Program text) = ⊥
 IsUnsaved before after saved ended (failure.Absent name) = ⊥
+IsUnsaved before after saved ended (failure.Full name) = ⊥
 IsUnsaved before after saved ended (failure.Refused refused) =
     (after ≡ before) × (refused ≡ out_of_memory)
 IsUnsaved before after saved ended (failure.File name problem) = after ≡ before

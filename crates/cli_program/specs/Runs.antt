@@ -84,6 +84,7 @@ module _ (run : Run) (it : Read) (writes writes_then : Option (List Access)) whe
   HasFailedOf taken taken_then (failure.Words text) = ⊥
   HasFailedOf taken taken_then (failure.Program text) = ⊥
   HasFailedOf taken taken_then (failure.Absent name) = ⊥
+  HasFailedOf taken taken_then (failure.Full name) = ⊥
   HasFailedOf taken taken_then (failure.Refused refused) =
       (writes_then ≡ writes) × IsRefusal (job_of_run run it) refused
   HasFailedOf taken taken_then (failure.File name problem) = writes_then ≡ writes
@@ -125,6 +126,7 @@ module _ (run : Run) (reads reads_then : Option (List Access)) where
     HasFailed taken taken_then (failure.Words text) = ⊥
     HasFailed taken taken_then (failure.Program text) = ⊥
     HasFailed taken taken_then (failure.Absent name) = ⊥
+    HasFailed taken taken_then (failure.Full name) = ⊥
     HasFailed taken taken_then (failure.Refused refused) =
         (writes_then ≡ writes) × ((refused ≡ out_of_memory) ⊎ IsRefusedRun refused)
     HasFailed taken taken_then (failure.File name problem) = writes_then ≡ writes

@@ -13,8 +13,10 @@ pub enum Failure<'a> {
     Words(String),
     /// A program has these errors, in lines.
     Program(String),
-    /// The image has no object with this name.
+    /// The image has no object with this name, or no value with this path.
     Absent(&'a str),
+    /// No free block of the segment is large enough for what has this name.
+    Full(&'a str),
     /// The library refused the image, a client or an argument.
     Refused(Refused),
     /// The file with this name can't be read or written, for this reason.
@@ -29,7 +31,7 @@ impl Failure<'_> {
         ensures { (0 < result) × (result ≤ 3) }
     {
         match self {
-            Failure::Refused(_) | Failure::Absent(_) | Failure::Program(_) => 1,
+            Failure::Refused(_) | Failure::Absent(_) | Failure::Full(_) | Failure::Program(_) => 1,
             Failure::Words(_) => 2,
             Failure::File(_, _) | Failure::Output => 3,
         }
@@ -40,6 +42,7 @@ impl Failure<'_> {
         match self {
             Failure::Words(text) | Failure::Program(text) => format!(in alloc; "{text}"),
             Failure::Absent(name) => format!(in alloc; "absent {name}\n"),
+            Failure::Full(name) => format!(in alloc; "full {name}\n"),
             Failure::Refused(refused) => format!(in alloc; "{refused}\n"),
             Failure::File(name, _) => format!(in alloc; "file {name}\n"),
             Failure::Output => String::from_str(alloc, "file -\n"),

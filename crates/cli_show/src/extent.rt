@@ -31,3 +31,11 @@ impl Extent {
         }
     }
 }
+
+/// How objects are shown.
+#[derive(Clone, Copy)]
+pub struct Detail {
+    pub extent: Extent,
+    /// Whether each object's type follows its name, in words.
+    pub typed: bool,
+}

@@ -1,12 +1,13 @@
 //! The objects of a segment with their values, as indented lines.
 
-use crate::extent::Extent;
+use crate::extent::{Detail, Extent};
 use crate::lines::IndentedText;
 use crate::parts::Selector;
 use crate::roots::{Root, RootName, frozen_number, roots};
+use crate::types::add_type;
 use crate::walk::{Met, ValueWalk, most_turns};
 use seg_block::{Fit, UNIT};
-use seg_manager::{Heap, Place, Segment, Type, frozen};
+use seg_manager::{Heap, Place, Segment, Type, TypeId, frozen};
 use std::alloc::{AllocError, Global};
 
 /// All objects: the named ones in ascending order of their names, the unique ones in order of type, and the frozen ones in
@@ -14,28 +15,30 @@ use std::alloc::{AllocError, Global};
 pub fn all_objects<F: Fit>(
     alloc: Global,
     segment: &Segment<F, Global>,
-    extent: Extent,
+    detail: Detail,
 ) -> Result<Vec<u8>, AllocError> {
     let roots = roots(alloc, segment)?;
-    let mut shown = Shown::new(alloc, segment.heap(), extent, roots.as_slice())?;
+    let mut shown = Shown::new(alloc, segment.heap(), detail, roots.as_slice())?;
     for root in &roots {
         shown.add_object(root)?;
     }
     Ok(shown.lines.into_bytes())
 }
 
-/// The object with a name, if there is one, and each frozen object that a shown cell points to.
-pub fn one_object<F: Fit>(
+/// The object with a name, or if it doesn't exist, those whose names are like it as a pattern; and each frozen object that a shown
+/// cell points to. `None` if there is no such object.
+pub fn some_objects<F: Fit>(
     alloc: Global,
     segment: &Segment<F, Global>,
     name: &[u8],
-    extent: Extent,
+    detail: Detail,
 ) -> Result<Option<Vec<u8>>, AllocError> {
     let roots = roots(alloc, segment)?;
-    let mut shown = Shown::new(alloc, segment.heap(), extent, roots.as_slice())?;
+    let mut shown = Shown::new(alloc, segment.heap(), detail, roots.as_slice())?;
+    let is_exact = roots.iter().any(|root| root.is_named(name));
     let mut found = false;
     for root in &roots {
-        if root.is_named(name) || shown.names(root.first.at) {
+        if is_wanted(root, name, is_exact) || shown.names(root.first.at) {
             shown.add_object(root)?;
             found = true;
         }
@@ -43,11 +46,40 @@ pub fn one_object<F: Fit>(
     Ok(found.then_some(shown.lines.into_bytes()))
 }
 
+fn is_wanted(root: &Root, name: &[u8], is_exact: bool) -> bool {
+    if is_exact {
+        root.is_named(name)
+    } else {
+        root.is_like(name)
+    }
+}
+
+/// A value: a number, a text as a client's text spells it, or the lines that show another value.
+pub fn value_lines<F: Fit>(
+    alloc: Global,
+    segment: &Segment<F, Global>,
+    value: Place,
+) -> Result<Vec<u8>, AllocError> {
+    let detail = Detail {
+        extent: Extent::All,
+        typed: false,
+    };
+    let mut shown = Shown::new(alloc, segment.heap(), detail, &[])?;
+    shown.add_alone(value)?;
+    Ok(shown.lines.into_bytes())
+}
+
+/// The bytes of a string.
+pub(crate) fn text_of<'h, F: Fit>(heap: &'h Heap<F, Global>, text: Place) -> &'h [u8] {
+    let from = heap.start(text.at) as usize;
+    heap.window().slice(from, heap.count(text.at) as usize)
+}
+
 /// Objects of a heap as lines.
 #[derive(Drop)]
 struct Shown<'h, F: Fit> {
     heap: &'h Heap<F, Global>,
-    extent: Extent,
+    detail: Detail,
     lines: IndentedText,
     /// For each unit of the segment, whether a cell in these lines points to the frozen object whose value begins in it. Empty if
     /// no object is frozen.
@@ -58,7 +90,7 @@ impl<'h, F: Fit> Shown<'h, F> {
     fn new(
         alloc: Global,
         heap: &'h Heap<F, Global>,
-        extent: Extent,
+        detail: Detail,
         roots: &[Root],
     ) -> Result<Shown<'h, F>, AllocError> {
         let units = if roots.iter().any(|root| root.is_frozen()) {
@@ -68,7 +100,7 @@ impl<'h, F: Fit> Shown<'h, F> {
         };
         Ok(Shown {
             heap,
-            extent,
+            detail,
             lines: IndentedText::new(alloc),
             named: Vec::from_elem(alloc, false, units as usize)?,
         })
@@ -84,15 +116,41 @@ impl<'h, F: Fit> Shown<'h, F> {
         let size = self.heap.types().size(root.first.type_id);
         for index in 0..root.count {
             add_root_name(&mut self.lines, root, index)?;
+            self.add_root_type(root.first.type_id)?;
             self.add_value(root.value(index, size))?;
         }
         Ok(())
     }
 
+    /// Adds an object's type in brackets, if types are shown.
+    fn add_root_type(&mut self, t: TypeId) -> Result<(), AllocError> {
+        if !self.detail.typed {
+            return Ok(());
+        }
+        self.lines.add(b" (")?;
+        add_type(&mut self.lines, self.heap.types(), t)?;
+        self.lines.add(b")")
+    }
+
     /// Ends the line of a value, and adds the lines of all values inside it.
     fn add_value(&mut self, value: Place) -> Result<(), AllocError> {
         self.end_line(value)?;
-        let mut walk = ValueWalk::new(self.lines.alloc(), self.heap, value, self.extent)?;
+        self.add_parts(value)
+    }
+
+    /// Adds a value without a name, and the lines of all values inside it.
+    fn add_alone(&mut self, value: Place) -> Result<(), AllocError> {
+        match self.heap.types().kind(value.type_id) {
+            Some(Type::Str) => self.lines.add_spelled(text_of(self.heap, value))?,
+            Some(_) | None => self.add_content(value)?,
+        }
+        self.lines.end()?;
+        self.add_parts(value)
+    }
+
+    /// Adds the lines of all values inside a value.
+    fn add_parts(&mut self, value: Place) -> Result<(), AllocError> {
+        let mut walk = ValueWalk::new(self.lines.alloc(), self.heap, value, self.detail.extent)?;
         for _ in 0..most_turns(self.heap.window().len()) {
             let Some(met) = walk.next(self.heap)? else {
                 break;
@@ -119,12 +177,19 @@ impl<'h, F: Fit> Shown<'h, F> {
     fn add_content(&mut self, value: Place) -> Result<(), AllocError> {
         let word = match self.heap.types().kind(value.type_id) {
             Some(Type::I64) => return self.lines.add_number("", self.heap.load(value.at)),
-            Some(Type::Str) => return self.add_text(value),
+            Some(Type::Str) => {
+                let bytes = text_of(self.heap, value);
+                return self.lines.add_text(bytes, self.detail.extent);
+            }
             Some(Type::Vec(_)) => "vector of ",
             Some(Type::List(_)) => "list of ",
             Some(Type::FlatMap(_)) => "flat map of ",
             Some(Type::Map(_)) => "map of ",
-            Some(Type::Own(_)) => return self.lines.add(own_word(self.heap.count(value.at))),
+            Some(Type::Own(_)) => {
+                return self
+                    .lines
+                    .add(own_word(self.heap.count(value.at)).as_bytes());
+            }
             Some(Type::Struct(_)) => return self.lines.add(b"struct"),
             Some(Type::Shared(_)) => return self.add_shared(value),
             // not reached: a sound image has no value of an unknown type
@@ -146,20 +211,6 @@ impl<'h, F: Fit> Shown<'h, F> {
             }
             None => self.lines.add(b"nothing"),
         }
-    }
-
-    /// Adds a string's bytes in quotation marks, and its length if not all bytes are shown.
-    fn add_text(&mut self, text: Place) -> Result<(), AllocError> {
-        let len = self.heap.count(text.at) as usize;
-        let shown = len.min(self.extent.bytes());
-        let from = self.heap.start(text.at) as usize;
-        self.lines
-            .add_quoted(self.heap.window().slice(from, shown))?;
-        if shown < len {
-            self.lines
-                .add_number(".. of ", i64::from(self.heap.count(text.at)))?;
-        }
-        Ok(())
     }
 }
 
@@ -202,6 +253,6 @@ fn add_step(lines: &mut IndentedText, step: Selector) -> Result<(), AllocError> 
 }
 
 /// The word for the contents of an own, by the number of objects in it.
-fn own_word(count: u32) -> &'static [u8] {
-    if count == 0 { b"nothing" } else { b"an object" }
+pub(crate) fn own_word(count: u32) -> &'static str {
+    if count == 0 { "nothing" } else { "an object" }
 }

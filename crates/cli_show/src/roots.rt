@@ -1,4 +1,5 @@
 use crate::blocks::{blocks, live_tag};
+use crate::pattern::is_like;
 use seg_block::{Fit, Kind, UNIT};
 use seg_manager::{
     Content, Heap, MAX_TYPES, Named, Place, Segment, TypeId, Window, first_name, next_name,
@@ -32,12 +33,20 @@ impl Root<'_> {
         }
     }
 
+    /// Whether this is a named object whose name is like a pattern.
+    pub(crate) fn is_like(&self, pattern: &[u8]) -> bool {
+        match self.name {
+            RootName::Named(name) => is_like(name, pattern),
+            RootName::Unique | RootName::Frozen { .. } => false,
+        }
+    }
+
     pub(crate) fn is_frozen(&self) -> bool {
         matches!(self.name, RootName::Frozen { .. })
     }
 
     /// A frozen object's number; 0 for other objects.
-    fn number(&self) -> u32 {
+    pub(crate) fn number(&self) -> u32 {
         match self.name {
             RootName::Frozen { number, .. } => number,
             RootName::Named(_) | RootName::Unique => 0,

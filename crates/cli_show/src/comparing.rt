@@ -1,0 +1,210 @@
+//! The differences between two segments, by names and values.
+
+use crate::contents::{Entry, Object, Objects, entries};
+use crate::lines::IndentedText;
+use crate::parts::Selector;
+use seg_block::Fit;
+use seg_manager::Segment;
+use std::alloc::{AllocError, Global};
+use std::cmp::Ordering;
+
+/// How many of the last steps of a path are printed.
+const SHOWN_STEPS: usize = 8;
+
+/// A line for each value that only one of two segments has, or that differs: `-` and the value in the first one, `+` and that in
+/// the second one.
+pub fn difference<F: Fit, G: Fit>(
+    alloc: Global,
+    one: &Segment<F, Global>,
+    other: &Segment<G, Global>,
+) -> Result<Vec<u8>, AllocError> {
+    let (mine, theirs) = (Objects::of(alloc, one)?, Objects::of(alloc, other)?);
+    let mut lines = IndentedText::new(alloc);
+    let (mut my_next, mut their_next) = (0, 0);
+    for _ in 0..mine.all.len().saturating_add(theirs.all.len()) {
+        let (my_object, their_object) = least(
+            mine.all.get(my_next).copied(),
+            theirs.all.get(their_next).copied(),
+        );
+        let my_entries = entries(alloc, one.heap(), &mine, my_object)?;
+        let their_entries = entries(alloc, other.heap(), &theirs, their_object)?;
+        let mut pair = Pair {
+            one: Cursor::new(alloc, b"- ", my_object, my_entries.as_slice()),
+            other: Cursor::new(alloc, b"+ ", their_object, their_entries.as_slice()),
+        };
+        pair.compare(&mut lines)?;
+        my_next = after(my_next, my_object);
+        their_next = after(their_next, their_object);
+    }
+    Ok(lines.into_bytes())
+}
+
+/// The index after an object, if there is one.
+fn after(index: usize, object: Option<Object>) -> usize {
+    match object {
+        Some(_) => index.saturating_add(1),
+        None => index,
+    }
+}
+
+/// The next objects to compare: both if they have the same name, otherwise the one that comes first.
+fn least<'a, 'b>(
+    one: Option<Object<'a>>,
+    other: Option<Object<'b>>,
+) -> (Option<Object<'a>>, Option<Object<'b>>) {
+    let (Some(mine), Some(theirs)) = (one, other) else {
+        return (one, other);
+    };
+    match mine.order(&theirs) {
+        Ordering::Less => (one, None),
+        Ordering::Equal => (one, other),
+        Ordering::Greater => (None, other),
+    }
+}
+
+/// A place in the values of an object.
+#[derive(Drop)]
+struct Cursor<'a, 'h> {
+    /// What a line about this object begins with.
+    sign: &'static [u8],
+    object: Option<Object<'h>>,
+    entries: &'a [Entry<'h>],
+    next: usize,
+    /// The steps to the last value, with the index in the object first.
+    path: Vec<Selector>,
+}
+
+impl<'a, 'h> Cursor<'a, 'h> {
+    fn new(
+        alloc: Global,
+        sign: &'static [u8],
+        object: Option<Object<'h>>,
+        entries: &'a [Entry<'h>],
+    ) -> Cursor<'a, 'h> {
+        Cursor {
+            sign,
+            object,
+            entries,
+            next: 0,
+            path: Vec::new(alloc),
+        }
+    }
+
+    fn entry(&self) -> Option<Entry<'h>> {
+        self.entries.get(self.next).copied()
+    }
+
+    fn advance(&mut self, entry: Entry) -> Result<(), AllocError> {
+        self.path.truncate(entry.level);
+        self.path.push(entry.step)?;
+        self.next = self.next.saturating_add(1);
+        Ok(())
+    }
+
+    /// Adds a line with the last value.
+    fn report(&self, lines: &mut IndentedText, entry: Entry) -> Result<(), AllocError> {
+        lines.add(self.sign)?;
+        if let Some(object) = self.object {
+            object.add_name(lines)?;
+            if object.root.count == 1 {
+                add_steps(lines, self.path.get(1..).unwrap_or(&[]))?;
+            } else {
+                add_steps(lines, self.path.as_slice())?;
+            }
+        }
+        lines.add(b": ")?;
+        entry.content.add(lines)?;
+        lines.end()
+    }
+}
+
+/// The values of two objects with the same name, or of one.
+#[derive(Drop)]
+struct Pair<'a, 'h, 'b, 'i> {
+    one: Cursor<'a, 'h>,
+    other: Cursor<'b, 'i>,
+}
+
+impl Pair<'_, '_, '_, '_> {
+    /// Adds the lines of all differences.
+    fn compare(&mut self, lines: &mut IndentedText) -> Result<(), AllocError> {
+        let most = self
+            .one
+            .entries
+            .len()
+            .saturating_add(self.other.entries.len());
+        for _ in 0..most {
+            match (self.one.entry(), self.other.entry()) {
+                (Some(mine), Some(theirs)) => self.compare_entries(lines, mine, theirs)?,
+                (Some(mine), None) => self.take_one(lines, mine)?,
+                (None, Some(theirs)) => self.take_other(lines, theirs)?,
+                (None, None) => break,
+            }
+        }
+        Ok(())
+    }
+
+    fn compare_entries(
+        &mut self,
+        lines: &mut IndentedText,
+        mine: Entry,
+        theirs: Entry,
+    ) -> Result<(), AllocError> {
+        match mine.order(&theirs) {
+            Ordering::Less => self.take_one(lines, mine),
+            Ordering::Greater => self.take_other(lines, theirs),
+            Ordering::Equal => self.take_both(lines, mine, theirs),
+        }
+    }
+
+    fn take_one(&mut self, lines: &mut IndentedText, mine: Entry) -> Result<(), AllocError> {
+        self.one.advance(mine)?;
+        self.one.report(lines, mine)
+    }
+
+    fn take_other(&mut self, lines: &mut IndentedText, theirs: Entry) -> Result<(), AllocError> {
+        self.other.advance(theirs)?;
+        self.other.report(lines, theirs)
+    }
+
+    fn take_both(
+        &mut self,
+        lines: &mut IndentedText,
+        mine: Entry,
+        theirs: Entry,
+    ) -> Result<(), AllocError> {
+        self.one.advance(mine)?;
+        self.other.advance(theirs)?;
+        if mine.content.is_same(&theirs.content) {
+            return Ok(());
+        }
+        self.one.report(lines, mine)?;
+        self.other.report(lines, theirs)
+    }
+}
+
+/// Adds the last steps of a path, after the number of the others.
+fn add_steps(lines: &mut IndentedText, steps: &[Selector]) -> Result<(), AllocError> {
+    let left_out = steps.len().saturating_sub(SHOWN_STEPS);
+    if left_out > 0 {
+        lines.add_number(".(", i64::try_from(left_out).unwrap_or(i64::MAX))?;
+        lines.add(b" parts)")?;
+    }
+    for step in steps.get(left_out..).unwrap_or(&[]) {
+        add_step(lines, *step)?;
+    }
+    Ok(())
+}
+
+/// Adds a step as in the path of a value.
+fn add_step(lines: &mut IndentedText, step: Selector) -> Result<(), AllocError> {
+    match step {
+        Selector::Index(index) => lines.add_index(index),
+        Selector::Key(key) => {
+            lines.add_number("[", key)?;
+            lines.add(b"]")
+        }
+        Selector::Field(index) => lines.add_number(".", i64::from(index)),
+        Selector::Content => lines.add(b".content"),
+    }
+}

@@ -1,0 +1,192 @@
+//! The content of a segment as a text, from which `load` makes an image with the same content.
+
+use crate::extent::Extent;
+use crate::lines::IndentedText;
+use crate::objects::text_of;
+use crate::parts::Selector;
+use crate::roots::{Root, RootName, frozen_number, roots};
+use crate::types::{add_types, kind_word};
+use crate::walk::{Met, ValueWalk, most_turns};
+use seg_block::Fit;
+use seg_manager::{Heap, Place, Segment, Type, Window, frozen, header};
+use std::alloc::{AllocError, Global};
+
+/// The segment's size, allocator and index; its types; the frozen objects in ascending order of their numbers, so that each comes
+/// after those to which it points; the named ones in order of their names, and the unique ones in order of type.
+pub fn dump<F: Fit>(alloc: Global, segment: &Segment<F, Global>) -> Result<Vec<u8>, AllocError> {
+    let roots = roots(alloc, segment)?;
+    let mut lines = IndentedText::new(alloc);
+    add_segment(&mut lines, segment.window())?;
+    add_types(&mut lines, segment.types())?;
+    for root in roots.as_slice().iter().rev() {
+        if root.is_frozen() {
+            add_object(&mut lines, segment.heap(), root)?;
+        }
+    }
+    for root in &roots {
+        if !root.is_frozen() {
+            add_object(&mut lines, segment.heap(), root)?;
+        }
+    }
+    Ok(lines.into_bytes())
+}
+
+fn add_segment(lines: &mut IndentedText, w: &Window<Global>) -> Result<(), AllocError> {
+    lines.add_number("segment ", i64::from(w.len()))?;
+    lines.add(b" ")?;
+    lines.add(allocator_word(w).as_bytes())?;
+    lines.add(b" ")?;
+    lines.add(index_word(w).as_bytes())?;
+    lines.end()
+}
+
+/// The word for a segment's allocator, as an argument of `new`.
+pub(crate) fn allocator_word(w: &Window<Global>) -> &'static str {
+    if w.get32(header::ALLOCATOR) == 0 {
+        "seq"
+    } else {
+        "best"
+    }
+}
+
+/// The word for a segment's index, as an argument of `new`.
+pub(crate) fn index_word(w: &Window<Global>) -> &'static str {
+    if w.get32(header::INDEX_KIND) == 0 {
+        "flat"
+    } else {
+        "tree"
+    }
+}
+
+/// Adds an object, with its values and all values inside them.
+fn add_object<F: Fit>(
+    lines: &mut IndentedText,
+    heap: &Heap<F, Global>,
+    root: &Root,
+) -> Result<(), AllocError> {
+    add_root(lines, root)?;
+    let size = heap.types().size(root.first.type_id);
+    for index in 0..root.count {
+        add_value(lines, heap, root.value(index, size))?;
+    }
+    Ok(())
+}
+
+/// Adds the line of an object: what it is, its type, and the number of its values if it isn't 1.
+fn add_root(lines: &mut IndentedText, root: &Root) -> Result<(), AllocError> {
+    match root.name {
+        RootName::Named(name) => {
+            lines.add(b"name ")?;
+            lines.add(name)?;
+        }
+        RootName::Unique => lines.add(b"unique")?,
+        RootName::Frozen { number, .. } => lines.add_number("frozen ", i64::from(number))?,
+    }
+    lines.add_number(" t", i64::from(root.first.type_id))?;
+    if root.count != 1 {
+        lines.add_number(" ", i64::from(root.count))?;
+    }
+    lines.end()
+}
+
+/// Adds a value and all values inside it. Parts come between the line of their value and a line `end`.
+fn add_value<F: Fit>(
+    lines: &mut IndentedText,
+    heap: &Heap<F, Global>,
+    value: Place,
+) -> Result<(), AllocError> {
+    lines.indent(1)?;
+    let mut open = Vec::from_slice(lines.alloc(), &[add_content(lines, heap, value)?])?;
+    let mut walk = ValueWalk::new(lines.alloc(), heap, value, Extent::All)?;
+    for _ in 0..most_turns(heap.window().len()) {
+        let Some(met) = walk.next(heap)? else {
+            break;
+        };
+        match met {
+            Met::Part { level, part } => {
+                lines.indent(level.saturating_add(1))?;
+                add_key(lines, part.step)?;
+                open.push(add_content(lines, heap, part.place)?)?;
+            }
+            Met::End { level, .. } => {
+                if open.pop() == Some(true) {
+                    lines.indent(level)?;
+                    lines.add(b"end\n")?;
+                }
+            }
+        }
+    }
+    Ok(())
+}
+
+/// Adds the key of a part of a map. Parts of other values need none, since they are in order.
+fn add_key(lines: &mut IndentedText, step: Selector) -> Result<(), AllocError> {
+    match step {
+        Selector::Key(key) => {
+            lines.add_number("", key)?;
+            lines.add(b": ")
+        }
+        Selector::Index(_) | Selector::Field(_) | Selector::Content => Ok(()),
+    }
+}
+
+/// Ends the line of a value. Returns whether its parts and `end` follow.
+fn add_content<F: Fit>(
+    lines: &mut IndentedText,
+    heap: &Heap<F, Global>,
+    value: Place,
+) -> Result<bool, AllocError> {
+    let Some(kind) = heap.types().kind(value.type_id) else {
+        // not reached: a sound image has no value of an unknown type
+        lines.end()?;
+        return Ok(false);
+    };
+    let has_parts = add_word(lines, heap, value, kind)?;
+    lines.end()?;
+    Ok(has_parts)
+}
+
+/// Adds what a value is. Returns whether its parts follow.
+fn add_word<F: Fit>(
+    lines: &mut IndentedText,
+    heap: &Heap<F, Global>,
+    value: Place,
+    kind: Type,
+) -> Result<bool, AllocError> {
+    match kind {
+        Type::I64 => lines.add_number("", heap.load(value.at))?,
+        Type::Str => add_text(lines, text_of(heap, value))?,
+        Type::Shared(_) => add_shared(lines, heap, value)?,
+        Type::Own(_) if heap.count(value.at) == 0 => lines.add(b"nothing")?,
+        Type::Own(_)
+        | Type::Struct(_)
+        | Type::Vec(_)
+        | Type::List(_)
+        | Type::FlatMap(_)
+        | Type::Map(_) => {
+            lines.add(kind_word(kind).as_bytes())?;
+            return Ok(true);
+        }
+    }
+    Ok(false)
+}
+
+fn add_text(lines: &mut IndentedText, bytes: &[u8]) -> Result<(), AllocError> {
+    lines.add(b"\"")?;
+    lines.add_spelled(bytes)?;
+    lines.add(b"\"")
+}
+
+fn add_shared<F: Fit>(
+    lines: &mut IndentedText,
+    heap: &Heap<F, Global>,
+    cell: Place,
+) -> Result<(), AllocError> {
+    match frozen(heap, cell) {
+        Some(value) => {
+            let number = frozen_number(heap.window(), value);
+            lines.add_number("frozen ", i64::from(number))
+        }
+        None => lines.add(b"nothing"),
+    }
+}
