@@ -1,107 +1,151 @@
 //! Commands with outputs and files that fail, and with an output that takes few bytes at a time.
 
-use crate::tests::files::{counter_files, is, run, run_into};
-use std::process::Abort;
+use crate::tests::files::{counter_files, follow, run_into, words_of};
+use std::alloc::Global;
 use std::test::Fail;
-use support_data::{Limited, counter_saved, equal, front, is_true};
+use support_data::Limited;
 
-const RUN: [&str; 5] = ["segtool", "run", "image", "saved", "client"];
-
-/// The output fails after this many bytes. Tests that it took the bytes before, and that the image is saved with the client's
-/// changes up to there.
-fn stops_after(rt: &(impl Abort + AllocGlobal), limit: usize) -> Result<(), Fail> {
-    let mut files = counter_files(rt.alloc())?;
-    let out = Limited::new(rt.alloc(), usize::MAX, limit);
-    let printed = run_into(rt.alloc(), RUN.as_slice(), &mut files, out);
-    equal(printed.status, 3).expect(rt, "equal");
-    equal(printed.err.as_slice(), b"file -\n".as_slice()).expect(rt, "equal");
-    equal(printed.out.as_slice(), front(b"42\n", limit)).expect(rt, "equal");
-    let saved = counter_saved(rt.alloc(), 42)?;
-    equal(files.get("saved"), saved.as_slice()).expect(rt, "equal");
-    Ok(())
+/// A command, the files and the output of which fail, and what it does.
+struct Case {
+    command: &'static str,
+    /// The read and the write that fail, counted from 1.
+    failing: (usize, usize),
+    /// How many bytes the output takes at a time, and in all.
+    taken: (usize, usize),
+    status: u8,
+    out: &'static str,
+    err: &'static str,
+    /// Tests of the files.
+    then: &'static str,
 }
 
-/// The output fails at each byte in turn.
-#[test]
-fn stops_at_a_failed_output(rt: HostRuntime) -> Result<(), Fail> {
-    for limit in 0..3 {
-        stops_after(&rt, limit)?;
-    }
-    Ok(())
-}
+const MOST: usize = usize::MAX;
 
-/// Tests the explanation of a command whose output takes no byte.
-fn tells_of_a_failed_output(
-    rt: &(impl Abort + AllocGlobal),
-    words: &[&str],
-    line: &str,
-) -> Result<(), Fail> {
-    let mut files = counter_files(rt.alloc())?;
-    let out = Limited::new(rt.alloc(), usize::MAX, 0);
-    let printed = run_into(rt.alloc(), words, &mut files, out);
-    is(rt, &printed, 3, "", line);
-    Ok(())
-}
-
-#[test]
-fn tells_of_failed_outputs(rt: HostRuntime) -> Result<(), Fail> {
-    let words = ["segtool", "run", "image", "saved", "client", "--explain"];
-    tells_of_a_failed_output(
-        &rt,
-        words.as_slice(),
-        "file -\nthe output couldn't be written, and the run ended there; \
+static CASES: [Case; 11] = [
+    // The output fails at each byte in turn. The image is saved with the client's changes up to there.
+    Case {
+        command: "segtool run image saved client",
+        failing: (0, 0),
+        taken: (MOST, 0),
+        status: 3,
+        out: "",
+        err: "file -\n",
+        then: "$ saved saved 42",
+    },
+    Case {
+        command: "segtool run image saved client",
+        failing: (0, 0),
+        taken: (MOST, 1),
+        status: 3,
+        out: "4",
+        err: "file -\n",
+        then: "$ saved saved 42",
+    },
+    Case {
+        command: "segtool run image saved client",
+        failing: (0, 0),
+        taken: (MOST, 2),
+        status: 3,
+        out: "42",
+        err: "file -\n",
+        then: "$ saved saved 42",
+    },
+    // An output that takes one byte at a time doesn't fail.
+    Case {
+        command: "segtool run image saved client",
+        failing: (0, 0),
+        taken: (1, MOST),
+        status: 0,
+        out: "42\n",
+        err: "",
+        then: "$ saved saved 42",
+    },
+    // Explanations of failed outputs.
+    Case {
+        command: "segtool run image saved client --explain",
+        failing: (0, 0),
+        taken: (MOST, 0),
+        status: 3,
+        out: "",
+        err: "file -\nthe output couldn't be written, and the run ended there; \
 the image as it was then was saved, unless its file failed too\n",
-    )?;
-    let words = ["segtool", "grow", "image", "32", "--explain"];
-    tells_of_a_failed_output(
-        &rt,
-        words.as_slice(),
-        "file -\nthe output couldn't be written; the image was saved, unless its file failed too\n",
-    )?;
-    let words = ["segtool", "check", "image", "--explain"];
-    tells_of_a_failed_output(
-        &rt,
-        words.as_slice(),
-        "file -\nthe output couldn't be written\n",
-    )
-}
+        then: "$ saved saved 42",
+    },
+    Case {
+        command: "segtool grow image 32 --explain",
+        failing: (0, 0),
+        taken: (MOST, 0),
+        status: 3,
+        out: "",
+        err: "file -\nthe output couldn't be written; the image was saved, unless its file failed too\n",
+        then: "$ size image 816",
+    },
+    Case {
+        command: "segtool check image --explain",
+        failing: (0, 0),
+        taken: (MOST, 0),
+        status: 3,
+        out: "",
+        err: "file -\nthe output couldn't be written\n",
+        then: "$ writes 0",
+    },
+    // Each read fails in turn, and nothing is written. Then the write fails.
+    Case {
+        command: "segtool run image saved client",
+        failing: (1, 0),
+        taken: (MOST, MOST),
+        status: 3,
+        out: "",
+        err: "file image\n",
+        then: "$ writes 0",
+    },
+    Case {
+        command: "segtool run image saved client",
+        failing: (2, 0),
+        taken: (MOST, MOST),
+        status: 3,
+        out: "",
+        err: "file client\n",
+        then: "$ writes 0",
+    },
+    Case {
+        command: "segtool run image saved client",
+        failing: (0, 1),
+        taken: (MOST, MOST),
+        status: 3,
+        out: "42\n",
+        err: "file saved\n",
+        then: "$ absent saved",
+    },
+    // A file in a folder that doesn't exist.
+    Case {
+        command: "segtool run image elsewhere client",
+        failing: (0, 0),
+        taken: (MOST, MOST),
+        status: 3,
+        out: "42\n",
+        err: "file elsewhere\n",
+        then: "$ absent elsewhere",
+    },
+];
 
-#[test]
-fn writes_a_byte_at_a_time(rt: HostRuntime) -> Result<(), Fail> {
-    let alloc = rt.alloc();
+fn does(alloc: Global, case: &Case) -> Result<(), Fail> {
     let mut files = counter_files(alloc)?;
-    let out = Limited::new(alloc, 1, usize::MAX);
-    let printed = run_into(alloc, RUN.as_slice(), &mut files, out);
-    is(&rt, &printed, 0, "42\n", "");
-    Ok(())
-}
-
-/// Tests a failed read: its file is printed, and nothing is written.
-fn tells_of_a_failed_read(
-    rt: &(impl Abort + AllocGlobal),
-    read: usize,
-    line: &str,
-) -> Result<(), Fail> {
-    let mut files = counter_files(rt.alloc())?;
-    files.failing_read = read;
-    let printed = run(rt.alloc(), RUN.as_slice(), &mut files);
-    is(rt, &printed, 3, "", line);
-    is_true(!files.has("saved")).expect(rt, "true");
-    Ok(())
-}
-
-/// Each read fails in turn.
-#[test]
-fn tells_of_failed_reads(rt: HostRuntime) -> Result<(), Fail> {
-    tells_of_a_failed_read(&rt, 1, "file image\n")?;
-    tells_of_a_failed_read(&rt, 2, "file client\n")
+    files.failing_read = case.failing.0;
+    files.failing_write = case.failing.1;
+    let words = words_of(alloc, ["seq", "flat"], case.command)?;
+    let out = Limited::new(alloc, case.taken.0, case.taken.1);
+    let printed = run_into(alloc, words.as_slice(), &mut files, out);
+    if printed.is(case.status, case.out, case.err) {
+        return follow(alloc, &mut files, case.then);
+    }
+    Err(Fail::new(format_args!("{} prints something else", case.command)))
 }
 
 #[test]
-fn tells_of_a_failed_write(rt: HostRuntime) -> Result<(), Fail> {
-    let mut files = counter_files(rt.alloc())?;
-    files.failing_write = 1;
-    let printed = run(rt.alloc(), RUN.as_slice(), &mut files);
-    is(&rt, &printed, 3, "42\n", "file saved\n");
+fn fails_at_outputs_and_files(rt: HostRuntime) -> Result<(), Fail> {
+    for case in &CASES {
+        does(rt.alloc(), case)?;
+    }
     Ok(())
 }

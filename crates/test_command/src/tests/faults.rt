@@ -1,69 +1,26 @@
-use crate::tests::files::{Stored, counter_files, follow, run};
+use crate::tests::files::{Stored, follow, play, run};
 use std::alloc::Global;
 use std::test::Fail;
-use support_data::{INCREMENT_FILE, counter, counter_where, equal, front, is_true};
-
-/// The counter's image, the increment client, the same client without its last byte, and another client that doesn't fit the
-/// image.
-fn files(alloc: Global) -> Result<Stored, Fail> {
-    let mut files = counter_files(alloc)?;
-    files.add("cut", front(&INCREMENT_FILE, 102))?;
-    files.add_client("text", "type str\nname x\n")?;
-    Ok(files)
-}
-
-/// Tests that refused runs write nothing.
-fn refuses_runs(alloc: Global, text: &str) -> Result<(), Fail> {
-    let mut files = files(alloc)?;
-    follow(alloc, &mut files, text)?;
-    if files.has("saved") {
-        return Err(Fail::from("written"));
-    }
-    Ok(())
-}
-
-#[test]
-fn refuses_files_and_words(rt: HostRuntime) -> Result<(), Fail> {
-    let alloc = rt.alloc();
-    let mut files = files(alloc)?;
-    follow(
-        alloc,
-        &mut files,
-        "
-$3 segtool check none
-file none
-$2 segtool run image saved
-$2 segtool check image image
-$2 segtool run --base x
-$2 segtool upgrade image saved",
-    )?;
-    let words = ["segtool", "run", "image", "elsewhere", "client"];
-    let printed = run(alloc, words.as_slice(), &mut files);
-    equal(printed.status, 3).expect(&rt, "equal");
-    equal(printed.err.as_slice(), b"file elsewhere\n".as_slice()).expect(&rt, "equal");
-    let printed = run(alloc, ["segtool", "--help"].as_slice(), &mut files);
-    equal(printed.status, 0).expect(&rt, "equal");
-    is_true(!printed.out.is_empty() && printed.err.is_empty()).expect(&rt, "true");
-    Ok(())
-}
+use support_data::{INCREMENT_FILE, counter, counter_where, front};
 
 /// Tests that `check` refuses an image with this fault.
 fn check_says(alloc: Global, image: &[u8], fault: &str) -> Result<(), Fail> {
     let mut files = Stored::new(alloc);
     files.add("image", image)?;
-    let text = format!(in alloc; "\n$1 segtool check image\n{fault}")?;
-    follow(alloc, &mut files, text.as_str())
+    let printed = run(alloc, &["segtool", "check", "image"], &mut files);
+    let line = printed.err.as_slice().strip_suffix(b"\n");
+    if printed.status == 1 && line == Some(fault.as_bytes()) {
+        return Ok(());
+    }
+    Err(Fail::new(format_args!("not {fault}")))
 }
 
-/// Tests the faults that `check` prints for the counter's image after some changes. `;` begins a comment.
-fn finds(alloc: Global, cases: &str) -> Result<(), Fail> {
-    for line in cases.lines() {
-        let case = line.split_once(';').map_or(line, |parts| parts.0);
-        let (changes, fault) = case.split_once(" => ").ok_or("no case")?;
-        let image = counter_where(alloc, changes)?;
-        check_says(alloc, image.as_slice(), fault.trim())?;
-    }
-    Ok(())
+/// Tests the fault that `check` prints for the counter's image after some changes. `;` begins a comment.
+fn finds(alloc: Global, line: &str) -> Result<(), Fail> {
+    let case = line.split_once(';').map_or(line, |parts| parts.0);
+    let (changes, fault) = case.split_once(" => ").ok_or("no case")?;
+    let image = counter_where(alloc, changes)?;
+    check_says(alloc, image.as_slice(), fault.trim())
 }
 
 #[test]
@@ -109,20 +66,43 @@ static FAULTS: [&str; 4] = [
 #[test]
 fn finds_each_fault(rt: HostRuntime) -> Result<(), Fail> {
     for text in &FAULTS {
-        finds(rt.alloc(), text)?;
+        for line in text.lines() {
+            finds(rt.alloc(), line)?;
+        }
     }
     Ok(())
 }
 
-static REFUSED: [&str; 2] = [
-    // Clients that are refused.
+static REFUSED: [&str; 3] = [
+    // Files and words.
     "
-$1 segtool run image saved client cut --base 0
-client 1 fault 20 95
+$ counter image
+$ example client increment
+$3 segtool check none
+file none
+$2 segtool run image saved
+$2 segtool check image image
+$2 segtool run --base x
+$2 segtool upgrade image saved
+$1 segtool print image
+fault 20 0
+$1 segtool verify image image
+fault 20 0
+$ absent saved",
+    // A client that doesn't fit the image.
+    "
+$ counter image
+$ example client increment
+$ client text
+type str
+name x
 $1 segtool run image saved text client --base 0
-client 0 fault 4 0",
-    // Places and images that are refused. In the last case the region ends before the segment, whose base is above 0.
+client 0 fault 4 0
+$ absent saved",
+    // Places and images. In the last case the region ends before the segment, whose base is above 0.
     "
+$ counter image
+$ example client increment
 $1 segtool run image saved client client --base 8
 fault 2
 $1 segtool run image saved client client --room 783
@@ -130,13 +110,31 @@ fault 2
 $1 segtool run client saved client client --base 0
 fault 10
 $1 segtool run image saved client --room 784 --base 16
-fault 2",
+fault 2
+$ absent saved",
 ];
 
 #[test]
 fn refuses_each_run(rt: HostRuntime) -> Result<(), Fail> {
     for text in &REFUSED {
-        refuses_runs(rt.alloc(), text)?;
+        play(rt.alloc(), text)?;
     }
     Ok(())
+}
+
+/// A client without its last byte.
+#[test]
+fn refuses_a_cut_client(rt: HostRuntime) -> Result<(), Fail> {
+    let mut files = Stored::new(rt.alloc());
+    files.add("cut", front(&INCREMENT_FILE, 102))?;
+    follow(
+        rt.alloc(),
+        &mut files,
+        "
+$ counter image
+$ example client increment
+$1 segtool run image saved client cut --base 0
+client 1 fault 20 95
+$ absent saved",
+    )
 }

@@ -1,5 +1,6 @@
-use crate::tests::files::{Stored, counter_file, follow};
-use std::alloc::Global;
+//! The texts of clients, and what is verified of clients.
+
+use crate::tests::files::{Stored, play, run};
 use std::test::Fail;
 use support_data::{INCREMENT, INCREMENT_FILE, equal};
 
@@ -7,32 +8,56 @@ use support_data::{INCREMENT, INCREMENT_FILE, equal};
 fn assembles_and_prints(rt: HostRuntime) -> Result<(), Fail> {
     let mut files = Stored::new(rt.alloc());
     files.add("text", INCREMENT.as_bytes())?;
-    follow(rt.alloc(), &mut files, "\n$ segtool asm text saved")?;
+    let _ = run(rt.alloc(), &["segtool", "asm", "text", "saved"], &mut files);
     equal(files.get("saved"), INCREMENT_FILE.as_slice()).expect(&rt, "equal");
-    let text = format!(in rt.alloc(); "\n$ segtool print saved\n{INCREMENT}")?;
-    follow(rt.alloc(), &mut files, text.trim_end())
-}
-
-/// Tests that the error output is one line: the fault, and the number of the wrong line.
-fn refuses_text(alloc: Global, text: &str, line: &str) -> Result<(), Fail> {
-    let mut files = Stored::new(alloc);
-    files.add("text", text.as_bytes())?;
-    let text = format!(in alloc; "\n$1 segtool asm text saved\n{line}")?;
-    follow(alloc, &mut files, text.as_str())?;
-    if files.has("saved") {
-        return Err(Fail::from("written"));
-    }
+    let printed = run(rt.alloc(), &["segtool", "print", "saved"], &mut files);
+    equal(printed.out.as_slice(), INCREMENT.as_bytes()).expect(&rt, "equal");
     Ok(())
 }
 
-#[test]
-fn tells_which_line_is_wrong(rt: HostRuntime) -> Result<(), Fail> {
-    refuses_text(rt.alloc(), "ADD r1 r16 r2", "fault 21 1")?;
-    refuses_text(rt.alloc(), "; adds\n\nADD r1 r16 r2\nEND", "fault 21 3")?;
-    refuses_text(rt.alloc(), "GETB r0\nELSE\n", "fault 21 3")
-}
+static CASES: [&str; 2] = [
+    // The number of a wrong line.
+    "
+$ file text
+ADD r1 r16 r2
+$1 segtool asm text saved
+fault 21 1
+$ file text
+; adds
 
-const TOO_LONG: &str = "CONST r0 1
+ADD r1 r16 r2
+END
+$1 segtool asm text saved
+fault 21 3
+$ file text
+GETB r0
+ELSE
+$1 segtool asm text saved
+fault 21 3
+$ absent saved",
+    // What is verified.
+    "
+$ counter image
+$ example client increment
+$ segtool verify image client
+steps 6
+$ client client
+CONST r0 0
+WHILE r0 5
+OUTI r0
+END
+$ segtool verify image client
+steps 12
+$ client client
+type str
+$1 segtool verify image client
+fault 4 0
+$ client client
+LOAD r0 r1
+$1 segtool verify image client
+fault 22 0 1
+$ client client
+CONST r0 1
 WHILE r0 1000
 WHILE r0 1000
 WHILE r0 1000
@@ -48,36 +73,14 @@ END
 END
 END
 END
-";
-
-/// Tests the result of `verify` for a client: its status, and the line that it prints.
-fn verify_says(alloc: Global, text: &str, said: &str) -> Result<(), Fail> {
-    let (status, line) = said.split_once(' ').ok_or("no status")?;
-    let mut files = counter_file(alloc, "image")?;
-    files.add_client("client", text)?;
-    let text = format!(in alloc; "\n${status} segtool verify image client\n{line}")?;
-    follow(alloc, &mut files, text.as_str())
-}
+$1 segtool verify image client
+fault 23",
+];
 
 #[test]
-fn verifies(rt: HostRuntime) -> Result<(), Fail> {
-    verify_says(rt.alloc(), INCREMENT, "0 steps 6")?;
-    let turns = "CONST r0 0\nWHILE r0 5\nOUTI r0\nEND\n";
-    verify_says(rt.alloc(), turns, "0 steps 12")?;
-    verify_says(rt.alloc(), "type str\n", "1 fault 4 0")?;
-    verify_says(rt.alloc(), "LOAD r0 r1\n", "1 fault 22 0 1")?;
-    verify_says(rt.alloc(), TOO_LONG, "1 fault 23")
-}
-
-#[test]
-fn refuses_wrong_files(rt: HostRuntime) -> Result<(), Fail> {
-    follow(
-        rt.alloc(),
-        &mut counter_file(rt.alloc(), "image")?,
-        "
-$1 segtool print image
-fault 20 0
-$1 segtool verify image image
-fault 20 0",
-    )
+fn assembles_and_verifies(rt: HostRuntime) -> Result<(), Fail> {
+    for text in &CASES {
+        play(rt.alloc(), text)?;
+    }
+    Ok(())
 }

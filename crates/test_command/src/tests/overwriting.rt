@@ -1,128 +1,87 @@
 //! Which files commands refuse to overwrite, and which they overwrite.
 
-use crate::tests::files::{Stored, counter_files, follow};
+use crate::tests::files::{Stored, follow};
 use std::alloc::Global;
 use std::test::Fail;
-use support_data::{INCREMENT, INCREMENT_FILE, counter, counter_saved, counter_where};
+use support_data::INCREMENT_FILE;
 
-/// The counter's image and a damaged one, an image `saved`, the increment client and its text, a wrong text, a picture, notes and
-/// an empty file. The files `alias` and `mirror` are the client and the image under other names.
+/// The counter's image and a damaged one, an image `saved`, the increment client and its text, a wrong text, a picture, notes, a
+/// dump and an empty file. The files `alias` and `mirror` are the client and the image under other names.
+const FILES: &str = "
+$ counter image
+$ counter saved
+$ counter damaged 16=2
+$ example client increment
+$ file text
+type i64
+name x
+FIND r0 - - t0 k0
+  LOAD r1 r0
+  CONST r2 1
+  ADD r1 r1 r2
+  STORE r0 r1
+  OUTI r1
+ELSE
+END
+$ file wrong
+ADD r1 r16 r2
+$ file picture
+<svg xmlns=\"\"></svg>
+$ file notes
+notes
+$ file dump
+segment 1024 seq flat
+$ file empty
+$ link alias client
+$ link mirror image
+";
+
 fn files(alloc: Global) -> Result<Stored, Fail> {
-    let mut files = counter_files(alloc)?;
-    files.add("saved", counter(alloc)?.as_slice())?;
-    files.add("damaged", counter_where(alloc, "16=2")?.as_slice())?;
-    files.add("text", INCREMENT.as_bytes())?;
-    files.add("wrong", b"ADD r1 r16 r2\n")?;
-    files.add("picture", b"<svg xmlns=\"\"></svg>\n")?;
-    files.add("notes", b"notes\n")?;
-    files.add("empty", b"")?;
-    files.link("alias", "client")?;
-    files.link("mirror", "image")?;
+    let mut files = Stored::new(alloc);
+    follow(alloc, &mut files, FILES)?;
     Ok(files)
 }
 
-/// Tests that commands write nothing.
-fn refuses(alloc: Global, text: &str) -> Result<(), Fail> {
-    let mut files = files(alloc)?;
-    follow(alloc, &mut files, text)?;
-    if files.writes > 0 {
-        return Err(Fail::from("written"));
-    }
-    Ok(())
-}
-
-/// What a command writes.
-#[derive(Clone, Copy)]
-enum Written {
-    /// The image after the increment client.
-    Counted,
-    /// An image of 1024 bytes.
-    Image,
-    /// The increment client.
-    Client,
-    Picture,
-}
-
-/// Whether a file has what a command should write.
-fn has(alloc: Global, bytes: &[u8], wanted: Written) -> Result<bool, Fail> {
-    Ok(match wanted {
-        Written::Counted => bytes == counter_saved(alloc, 42)?.as_slice(),
-        Written::Image => bytes.len() == 1024,
-        Written::Client => bytes == INCREMENT_FILE.as_slice(),
-        Written::Picture => bytes.starts_with(b"<svg "),
-    })
-}
-
-/// Tests that a command writes this to a file, and no other file.
-fn writes(alloc: Global, text: &str, file: &str, wanted: Written) -> Result<(), Fail> {
-    let mut files = files(alloc)?;
-    follow(alloc, &mut files, text)?;
-    if files.writes != 1 || !has(alloc, files.get(file), wanted)? {
-        return Err(Fail::from("not written"));
-    }
-    Ok(())
-}
-
-// Commands, and the file that each writes: files of the kind that it makes, also under another name, empty files, and with `--force`
-// any file.
-static WRITTEN: [(&str, &str, Written); 14] = [
-    (
-        "$ segtool run image image client\n42",
-        "image",
-        Written::Counted,
-    ),
-    (
-        "$ segtool run image mirror client\n42",
-        "image",
-        Written::Counted,
-    ),
-    (
-        "$ segtool run image damaged client\n42",
-        "damaged",
-        Written::Counted,
-    ),
-    (
-        "$ segtool run image empty client\n42",
-        "empty",
-        Written::Counted,
-    ),
-    (
-        "$ segtool run image notes client --force\n42",
-        "notes",
-        Written::Counted,
-    ),
-    ("$ segtool new saved 1024 seq flat", "saved", Written::Image),
-    ("$ segtool new empty 1024 seq flat", "empty", Written::Image),
-    (
-        "$ segtool new notes 1024 seq flat --force",
-        "notes",
-        Written::Image,
-    ),
-    ("$ segtool asm text alias", "client", Written::Client),
-    ("$ segtool asm text empty", "empty", Written::Client),
-    ("$ segtool asm text notes --force", "notes", Written::Client),
-    (
-        "$ segtool map image --svg picture",
-        "picture",
-        Written::Picture,
-    ),
-    ("$ segtool map image --svg empty", "empty", Written::Picture),
-    (
-        "$ segtool map image --svg notes --force",
-        "notes",
-        Written::Picture,
-    ),
+// Commands, each with its output, and tests of the file that it writes: one of the kind that it makes, also under another name, an
+// empty file, and with `--force` any file.
+static WRITTEN: [&str; 18] = [
+    "$ segtool run image image client\n42\n$ saved image 42",
+    "$ segtool run image mirror client\n42\n$ saved image 42",
+    "$ segtool run image damaged client\n42\n$ saved damaged 42",
+    "$ segtool run image empty client\n42\n$ saved empty 42",
+    "$ segtool run image notes client --force\n42\n$ saved notes 42",
+    "$ segtool new saved 1024 seq flat\n$ size saved 1024",
+    "$ segtool new empty 1024 seq flat\n$ size empty 1024",
+    "$ segtool new notes 1024 seq flat --force\n$ size notes 1024",
+    "$ segtool load dump saved\n$ size saved 1024",
+    "$ segtool load dump empty\n$ size empty 1024",
+    "$ segtool load dump notes --force\n$ size notes 1024",
+    "$ segtool set mirror x 42\n$ saved image 42",
+    "$ segtool asm text alias\n$ same client increment",
+    "$ segtool asm text empty\n$ same empty increment",
+    "$ segtool asm text notes --force\n$ same notes increment",
+    "$ segtool map image --svg picture\n$ begins picture <svg xmlns=\"http://",
+    "$ segtool map image --svg empty\n$ begins empty <svg ",
+    "$ segtool map image --svg notes --force\n$ begins notes <svg ",
 ];
+
+/// Tests that a command writes one file.
+fn writes(alloc: Global, text: &'static str) -> Result<(), Fail> {
+    let mut files = files(alloc)?;
+    files.add("increment", &INCREMENT_FILE)?;
+    follow(alloc, &mut files, text)?;
+    follow(alloc, &mut files, "$ writes 1")
+}
 
 #[test]
 fn commands_write_over_files(rt: HostRuntime) -> Result<(), Fail> {
-    for (text, file, wanted) in &WRITTEN {
-        writes(rt.alloc(), text, file, *wanted)?;
+    for text in &WRITTEN {
+        writes(rt.alloc(), text)?;
     }
     Ok(())
 }
 
-static SPARED: [&str; 9] = [
+static SPARED: [&str; 10] = [
     // A run spares its clients.
     "
 $3 segtool run image client client --explain
@@ -196,6 +155,18 @@ $3 segtool asm wrong notes
 file notes
 $1 segtool asm wrong notes --force
 fault 21 1",
+    // A dump that is loaded is spared, and what is no image.
+    "
+$3 segtool load text text --force
+file text
+$3 segtool load dump notes --explain
+file notes
+`notes` isn't empty and isn't an image, which begins with `SEGIMAGE`, so nothing was written over it; name another file, or add --force
+$3 segtool load none saved
+file none
+$1 segtool load notes saved --explain
+fault 21 1
+line 1 of the text isn't one that may come there: `segtool dump` prints such texts",
     // A picture spares its image.
     "
 $3 segtool map image --svg image --explain
@@ -218,10 +189,17 @@ $1 segtool map damaged --svg notes --force
 fault 10",
 ];
 
+/// Tests that commands write nothing.
+fn spares(alloc: Global, text: &'static str) -> Result<(), Fail> {
+    let mut files = files(alloc)?;
+    follow(alloc, &mut files, text)?;
+    follow(alloc, &mut files, "$ writes 0")
+}
+
 #[test]
 fn commands_spare_files(rt: HostRuntime) -> Result<(), Fail> {
     for text in &SPARED {
-        refuses(rt.alloc(), text)?;
+        spares(rt.alloc(), text)?;
     }
     Ok(())
 }

@@ -1,37 +1,28 @@
 //! Files that can't be read or written: the printed line, and the reason.
 
-use crate::tests::files::{Stored, counter_files, follow};
+use crate::tests::files::{Stored, counter_files, follow, play};
 use cli_host::FileProblem;
 use std::alloc::Global;
 use std::test::Fail;
 
 /// Tests what commands print if the image's file has this problem.
-fn tells(alloc: Global, problem: FileProblem, text: &str) -> Result<(), Fail> {
+fn tells(alloc: Global, problem: FileProblem, text: &'static str) -> Result<(), Fail> {
     let mut files = counter_files(alloc)?;
     files.fail("image", problem)?;
     follow(alloc, &mut files, text)
 }
 
+/// A missing file, and a missing folder.
 #[test]
-fn a_missing_file(rt: HostRuntime) -> Result<(), Fail> {
-    follow(
+fn missing_files(rt: HostRuntime) -> Result<(), Fail> {
+    play(
         rt.alloc(),
-        &mut Stored::new(rt.alloc()),
         "
 $3 segtool stat none --explain
 file none
 `none` doesn't exist, or is a link to a file that doesn't exist
 $3 segtool stat none
-file none",
-    )
-}
-
-#[test]
-fn a_missing_folder(rt: HostRuntime) -> Result<(), Fail> {
-    follow(
-        rt.alloc(),
-        &mut Stored::new(rt.alloc()),
-        "
+file none
 $3 segtool new none/image 1024 seq flat --explain
 file none/image
 `none/image` can't be made: its folder doesn't exist, or it is a link to a file that doesn't exist",
@@ -40,15 +31,15 @@ file none/image
 
 /// A client with one byte more than the limit, and one with exactly as many.
 #[test]
-fn a_file_that_is_too_long(rt: HostRuntime) -> Result<(), Fail> {
-    let alloc = rt.alloc();
-    let mut files = counter_files(alloc)?;
-    files.add("long", vec![in alloc; 0; 1048577]?.as_slice())?;
-    files.add("longest", vec![in alloc; 0; 1048576]?.as_slice())?;
+fn files_that_are_too_long(rt: HostRuntime) -> Result<(), Fail> {
+    let mut files = Stored::new(rt.alloc());
+    files.add("long", vec![in rt.alloc(); 0; 1048577]?.as_slice())?;
+    files.add("longest", vec![in rt.alloc(); 0; 1048576]?.as_slice())?;
     follow(
-        alloc,
+        rt.alloc(),
         &mut files,
         "
+$ counter image
 $3 segtool verify image long --explain
 file long
 `long` has more than 1048576 bytes; an image may have 2^30 bytes, and a client, a text or the input 2^20

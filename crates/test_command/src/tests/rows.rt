@@ -1,54 +1,41 @@
-use crate::tests::files::{counter_files, follow};
-use std::process::Abort;
+use crate::tests::files::play;
 use std::test::Fail;
-use support_data::{counter_saved, equal, is_true};
 
-/// Tests a command that runs the increment client on the counter's image, at a base of a region.
-fn increments(rt: &(impl Abort + AllocGlobal), text: &str) -> Result<(), Fail> {
-    let mut files = counter_files(rt.alloc())?;
-    follow(rt.alloc(), &mut files, text)?;
-    let saved = counter_saved(rt.alloc(), 42)?;
-    equal(files.get("saved"), saved.as_slice()).expect(rt, "equal");
-    Ok(())
-}
-
-#[test]
-fn increments_the_counter(rt: HostRuntime) -> Result<(), Fail> {
-    increments(
-        &rt,
-        "\n$ segtool run image saved client --base 0 --room 784\n42",
-    )?;
-    increments(
-        &rt,
-        "\n$ segtool run image saved client --base 16 --room 800\n42",
-    )?;
-    increments(
-        &rt,
-        "\n$ segtool run image saved client --base 4096 --room 8192\n42",
-    )
-}
-
-#[test]
-fn runs_clients_one_after_the_other(rt: HostRuntime) -> Result<(), Fail> {
-    let mut files = counter_files(rt.alloc())?;
-    files.add("input", b"unread")?;
-    follow(
-        rt.alloc(),
-        &mut files,
-        "
+static RUNS: [&str; 3] = [
+    // The increment client on the counter's image, at bases of a region.
+    "
+$ counter image
+$ example client increment
+$ segtool run image saved client --base 0 --room 784
+42
+$ saved saved 42
+$ segtool run image saved client --base 16 --room 800
+42
+$ saved saved 42
+$ segtool run image saved client --base 4096 --room 8192
+42
+$ saved saved 42",
+    // Clients one after the other.
+    "
+$ counter image
+$ example client increment
+$ file input
+unread
 $ segtool run image saved client client --input input
 42
-43",
-    )?;
-    let saved = counter_saved(rt.alloc(), 43)?;
-    equal(files.get("saved"), saved.as_slice()).expect(&rt, "equal");
-    Ok(())
-}
+43
+$ saved saved 43",
+    "
+$ counter image
+$ segtool check image
+ok
+$ absent saved",
+];
 
 #[test]
-fn checks_an_image(rt: HostRuntime) -> Result<(), Fail> {
-    let mut files = counter_files(rt.alloc())?;
-    follow(rt.alloc(), &mut files, "\n$ segtool check image\nok")?;
-    is_true(!files.has("saved")).expect(&rt, "true");
+fn runs_clients(rt: HostRuntime) -> Result<(), Fail> {
+    for text in &RUNS {
+        play(rt.alloc(), text)?;
+    }
     Ok(())
 }

@@ -1,14 +1,11 @@
-use crate::tests::files::{Stored, counter_file, follow, is, run, run_into};
+use crate::tests::files::{counter_file, is, play, play_each, run, run_into};
 use std::test::Fail;
-use support_data::{Limited, counter_saved, counter_where, equal, is_true};
+use support_data::{Limited, equal};
 
-/// A new image on each allocator and index consists of free memory.
-#[test]
-fn makes_empty_images(rt: HostRuntime) -> Result<(), Fail> {
-    for kind in ["seq flat", "seq tree", "best flat", "best tree"] {
-        let text = format!(in rt.alloc();
-            "
-$ segtool new saved 1024 {kind}
+static EACH_KIND: [&str; 2] = [
+    // A new image consists of free memory.
+    "
+$ segtool new saved 1024 ALG INDEX
 $ segtool check saved
 ok
 $ segtool stat saved
@@ -17,20 +14,31 @@ free 320
 largest 320
 named 0
 unique 0
-$ segtool list saved"
-        )?;
-        follow(rt.alloc(), &mut Stored::new(rt.alloc()), text.as_str())?;
+$ segtool list saved",
+    // The names in order with types and counts, and then the types of unique objects.
+    "
+$ example client objects
+$ segtool new saved 2048 ALG INDEX
+$ segtool run saved saved client
+$ segtool list saved
+ab 0 1
+b 0 3
+m 1 1
+unique 0
+unique 1",
+];
+
+#[test]
+fn makes_images_of_each_kind(rt: HostRuntime) -> Result<(), Fail> {
+    for text in &EACH_KIND {
+        play_each(rt.alloc(), &[*text])?;
     }
     Ok(())
 }
 
-#[test]
-fn refuses_sizes_and_words(rt: HostRuntime) -> Result<(), Fail> {
-    let mut files = Stored::new(rt.alloc());
-    follow(
-        rt.alloc(),
-        &mut files,
-        "
+static CASES: [&str; 6] = [
+    // Sizes and words that are refused.
+    "
 $1 segtool new saved 0 seq flat
 fault 5
 $1 segtool new saved 720 seq flat
@@ -42,64 +50,54 @@ fault 5
 $2 segtool new saved 1024 first flat
 $2 segtool new saved 1024 seq list
 $2 segtool new saved 4294967296 seq flat
-$2 segtool new saved -16 seq flat",
-    )?;
-    is_true(!files.has("saved")).expect(&rt, "true");
-    Ok(())
-}
-
-/// Makes objects of two types, not in order.
-const OBJECTS: &str = "type i64
-    type flat_map t0
-    name m
-    name b
-    name ab
-    CONST r1 3
-    MAKE r0 - - t1 k0
-    ELSE
-    END
-    MAKE r0 - r1 t0 k1
-    ELSE
-    END
-    MAKE r0 - - t0 k2
-    ELSE
-    END
-    UMAKE r0 t1
-    ELSE
-    END
-    UMAKE r0 t0
-    ELSE
-    END";
-
-/// The names in order with types and counts, and then the types of unique objects.
-#[test]
-fn lists_objects(rt: HostRuntime) -> Result<(), Fail> {
-    for index in ["flat", "tree"] {
-        let mut files = Stored::new(rt.alloc());
-        files.add_client("client", OBJECTS)?;
-        let text = format!(in rt.alloc();
-            "
-$ segtool new saved 2048 best {index}
-$ segtool run saved saved client
-$ segtool list saved
-ab 0 1
-b 0 3
-m 1 1
+$2 segtool new saved -16 seq flat
+$ absent saved",
+    // Further numbers of an image without free memory, of an empty one, and of one with three gaps.
+    "
+$ counter counter
+$ segtool stat counter --all
+size 784
+free 0
+largest 0
+named 1
 unique 0
-unique 1"
-        )?;
-        follow(rt.alloc(), &mut files, text.as_str())?;
-    }
-    Ok(())
-}
-
-#[test]
-fn grows_and_shrinks(rt: HostRuntime) -> Result<(), Fail> {
-    let mut files = counter_file(rt.alloc(), "saved")?;
-    follow(
-        rt.alloc(),
-        &mut files,
-        "
+version 1
+allocator seq
+index flat
+types 1
+blocks 2
+gaps 0
+fragmentation 0%
+$ segtool new saved 1024 best tree
+$ segtool stat saved --all
+size 1024
+free 320
+largest 320
+named 0
+unique 0
+version 2
+allocator best
+index tree
+types 0
+blocks 0
+gaps 1
+fragmentation 0%
+$ image shared sharing
+$ segtool stat shared --all
+size 1024
+free 208
+largest 144
+named 1
+unique 0
+version 2
+allocator seq
+index flat
+types 2
+blocks 3
+gaps 3
+fragmentation 30%",
+    "
+$ counter saved
 $ segtool grow saved 0
 size 784
 $ segtool grow saved 32
@@ -109,60 +107,30 @@ size 816
 free 32
 largest 32
 named 1
-unique 0",
-    )?;
-    equal(files.get("saved").len(), 816).expect(&rt, "equal");
-    follow(rt.alloc(), &mut files, "\n$ segtool shrink saved\nsize 784")?;
-    equal(
-        files.get("saved"),
-        counter_saved(rt.alloc(), 41)?.as_slice(),
-    )
-    .expect(&rt, "equal");
-    Ok(())
-}
-
-/// The counter's image becomes version 2, and another upgrade doesn't change it.
-#[test]
-fn upgrades(rt: HostRuntime) -> Result<(), Fail> {
-    let mut files = counter_file(rt.alloc(), "saved")?;
-    for _ in 0..2 {
-        follow(
-            rt.alloc(),
-            &mut files,
-            "\n$ segtool upgrade saved\nversion 2",
-        )?;
-        equal(
-            files.get("saved"),
-            counter_saved(rt.alloc(), 41)?.as_slice(),
-        )
-        .expect(&rt, "equal");
-    }
-    Ok(())
-}
-
-/// A faulty image isn't changed.
-#[test]
-fn upgrades_no_faulty_image(rt: HostRuntime) -> Result<(), Fail> {
-    let image = counter_where(rt.alloc(), "8=3")?;
-    let mut files = Stored::new(rt.alloc());
-    files.add("saved", image.as_slice())?;
-    follow(
-        rt.alloc(),
-        &mut files,
-        "\n$1 segtool upgrade saved\nfault 10",
-    )?;
-    equal(files.get("saved"), image.as_slice()).expect(&rt, "equal");
-    Ok(())
-}
-
-/// A single unit goes to the last block.
-#[test]
-fn grows_by_a_unit(rt: HostRuntime) -> Result<(), Fail> {
-    let mut files = counter_file(rt.alloc(), "saved")?;
-    follow(
-        rt.alloc(),
-        &mut files,
-        "
+unique 0
+$ size saved 816
+$ segtool shrink saved
+size 784
+$ saved saved 41",
+    // The counter's image becomes version 2, and another upgrade doesn't change it.
+    "
+$ counter saved
+$ segtool upgrade saved
+version 2
+$ saved saved 41
+$ segtool upgrade saved
+version 2
+$ saved saved 41",
+    // A faulty image isn't changed.
+    "
+$ counter saved 8=3
+$ copy before saved
+$1 segtool upgrade saved
+fault 10
+$ same saved before",
+    // A single unit goes to the last block.
+    "
+$ counter saved
 $ segtool grow saved 16
 size 800
 $ segtool shrink saved
@@ -172,9 +140,15 @@ ok
 $1 segtool grow saved 24
 fault 5
 $1 segtool grow saved 1073741824
-fault 5",
-    )?;
-    equal(files.get("saved").len(), 800).expect(&rt, "equal");
+fault 5
+$ size saved 800",
+];
+
+#[test]
+fn measures_and_changes_images(rt: HostRuntime) -> Result<(), Fail> {
+    for text in &CASES {
+        play(rt.alloc(), text)?;
+    }
     Ok(())
 }
 

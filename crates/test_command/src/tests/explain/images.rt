@@ -1,5 +1,5 @@
 use crate::tests::explain::sources::{clients_alone, image_alone, is};
-use crate::tests::files::FROZEN_PAIR;
+use crate::tests::images::FROZEN_PAIR;
 use cli_explain::explain;
 use lezgauri::{Fault, check};
 use std::alloc::Global;
