@@ -1,8 +1,13 @@
 //! Explanations of faults in an image.
 
+use crate::broken_block::{block_flaw, free_list_flaw};
+use crate::broken_pointer::{owners_flaw, pointer_flaw, unowned_flaw};
+use crate::broken_value::{free_tree_flaw, index_flaw, value_flaw};
 use crate::bytes::word;
 use crate::field::entry_flaw;
+use crate::flaw::Flaw;
 use crate::image::ImageReader;
+use crate::mistaken::no_image;
 use crate::sources::type_bytes;
 use client_code::ENTRY;
 use seg_index::{Fault, MAX_LEN, MIN_LEN, header, is_size};
@@ -12,20 +17,6 @@ use std::fmt::Write;
 /// The position of the version.
 const VERSION: usize = 8;
 
-/// The rules for values.
-const VALUES: &str =
-    "a list should be a ring and a map a red-black tree with ascending keys, with as many nodes as the number \
-after its pointer; the pointer should be null exactly if that number is 0\n";
-
-/// The rules for shared cells.
-const SHARING: &str =
-    "a shared should point to a frozen object exactly if the number after its pointer is 1; inside a frozen object, \
-it should point to one with a lower number\n";
-
-/// The rules for frozen objects.
-const FROZEN: &str =
-    "a frozen object should count the cells that point to it, and have a number below the one at byte 28\n";
-
 /// Explains a fault in an image's length or header.
 pub(crate) fn add_bad_header(text: &mut String, image: Option<&[u8]>) -> Result<(), AllocError> {
     let Some(image) = image else {
@@ -33,7 +24,7 @@ pub(crate) fn add_bad_header(text: &mut String, image: Option<&[u8]>) -> Result<
     };
     let len = image.len();
     if !image.starts_with(b"SEGIMAGE") {
-        return text.push_str("the file isn't an image: its first 8 bytes should be `SEGIMAGE`\n");
+        return text.push_str(no_image(image));
     }
     if !u32::try_from(len).is_ok_and(|len| is_size(len)) {
         return write!(
@@ -58,11 +49,27 @@ fn add_bad_word(text: &mut String, image: &[u8]) -> Result<(), AllocError> {
             text,
             "{field} is {number}, but should be {right}\n"
         ),
-        None if word(image, VERSION) == 1 => text.push_str(
-            "bytes 28 to 31 and 40 to 63 should be 0\n",
-        ),
-        None => text.push_str("bytes 40 to 63 should be 0\n"),
+        None => {
+            let flaw = zero_flaw(image);
+            write!(text, "{flaw}\n")
+        }
     }
+}
+
+/// The first byte of the header that should be 0 and isn't.
+fn zero_flaw(image: &[u8]) -> Flaw<'static> {
+    let from = if word(image, VERSION) == 1 { 28 } else { 32 };
+    for at in from..header::TYPES {
+        let is_zero = matches!(image.get(at), None | Some(0));
+        if !is_zero && !matches!(at, 32..=39) {
+            return Flaw::Number(
+                "byte ",
+                at,
+                " should be 0, like all reserved bytes of the header",
+            );
+        }
+    }
+    Flaw::Unmet("the reserved bytes of the header should be 0")
 }
 
 /// The first field of the header with a wrong number: its name, the number, and the numbers that it may have.
@@ -90,10 +97,11 @@ pub(crate) fn add_bad_type(
         return Ok(());
     };
     let at = (number as usize).saturating_mul(ENTRY);
-    let entry = type_bytes(image)
-        .get(at..at.saturating_add(ENTRY))
-        .unwrap_or(&[]);
-    let flaw = entry_flaw(entry, word(image, VERSION) == 2);
+    let flaw = entry_flaw(
+        type_bytes(image),
+        number as usize,
+        word(image, VERSION) == 2,
+    );
     let place = header::TYPES.saturating_add(at);
     write!(
         text,
@@ -101,23 +109,38 @@ pub(crate) fn add_bad_type(
     )
 }
 
-/// Describes the place of a byte in an image.
+/// Describes the place of a byte in an image, and the rule that is broken there. Returns false if the image can't be read.
 pub(crate) fn add_place(
     text: &mut String,
     alloc: Global,
     fault: Fault,
     at: u32,
     image: Option<&[u8]>,
-) -> Result<(), AllocError> {
-    let image = image_of(alloc, image)?;
-    if let Some(image) = &image {
-        add_location(text, image, at)?;
+) -> Result<bool, AllocError> {
+    let Some(image) = image_of(alloc, image)? else {
+        return Ok(false);
+    };
+    add_location(text, &image, at)?;
+    if matches!(fault, Fault::BadFree(_) | Fault::BadPointer(_)) {
+        add_target(text, &image, at)?;
     }
-    match (fault, &image) {
-        (Fault::BadFree(_) | Fault::BadPointer(_), Some(image)) => add_target(text, image, at),
-        (Fault::BadValue(_), Some(image)) => add_rules(text, image, at),
-        (Fault::BadValue(_), None) => text.push_str(VALUES),
-        _ => Ok(()),
+    let flaw = place_flaw(&image, fault, at);
+    write!(text, "{flaw}\n")?;
+    Ok(true)
+}
+
+/// Which rule is broken at a byte.
+fn place_flaw(image: &ImageReader, fault: Fault, at: u32) -> Flaw<'_> {
+    let view = image.view();
+    match fault {
+        Fault::BadBlock(_) => block_flaw(view, image.types(), at),
+        Fault::BadFree(_) if view.get32(header::ALLOCATOR) == 1 => free_tree_flaw(view),
+        Fault::BadFree(_) => free_list_flaw(view, at),
+        Fault::BadIndex(_) => index_flaw(image, at),
+        Fault::DoubleOwner(_) => owners_flaw(view, at),
+        Fault::Unowned(_) => unowned_flaw(view, at),
+        Fault::BadPointer(_) => pointer_flaw(image, at),
+        _ => value_flaw(image, at),
     }
 }
 
@@ -134,18 +157,6 @@ fn add_target(text: &mut String, image: &ImageReader, at: u32) -> Result<(), All
             write!(text, "the pointer there points to byte {to}, {location}\n")
         }
     }
-}
-
-/// Adds what the value at a byte should be.
-fn add_rules(text: &mut String, image: &ImageReader, at: u32) -> Result<(), AllocError> {
-    if image.is_frozen(at) {
-        return text.push_str(FROZEN);
-    }
-    text.push_str(VALUES)?;
-    if image.shares() {
-        return text.push_str(SHARING);
-    }
-    Ok(())
 }
 
 fn image_of(alloc: Global, image: Option<&[u8]>) -> Result<Option<ImageReader>, AllocError> {

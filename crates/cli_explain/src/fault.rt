@@ -1,6 +1,6 @@
 use crate::damage::{add_bad_header, add_bad_type, add_place};
 use crate::field::add_bad_code;
-use crate::rejection::{add_bound, add_rejection};
+use crate::rejection::{Rejected, add_bound, add_rejection};
 use crate::sources::Sources;
 use crate::text::add_bad_line;
 use crate::types::TypeWords;
@@ -21,12 +21,33 @@ pub fn explain(
     if let Some(number) = client {
         write!(text, "the fault is in client {number}, counted from 0\n")?;
     }
-    add_places(&mut text, alloc, fault, client, sources)?;
-    add_rule(&mut text, fault)?;
+    if !add_image_place(&mut text, alloc, fault, sources.image)? {
+        add_places(&mut text, alloc, fault, client, sources)?;
+        add_rule(&mut text, fault)?;
+    }
     Ok(text.into_bytes())
 }
 
-/// Adds the place of the fault.
+/// Adds the place of a fault in an image, and the rule that is broken there. Returns false if there is none, or no image.
+fn add_image_place(
+    text: &mut String,
+    alloc: Global,
+    fault: Fault,
+    image: Option<&[u8]>,
+) -> Result<bool, AllocError> {
+    match fault {
+        Fault::BadBlock(at)
+        | Fault::BadIndex(at)
+        | Fault::DoubleOwner(at)
+        | Fault::Unowned(at)
+        | Fault::BadValue(at)
+        | Fault::BadFree(at)
+        | Fault::BadPointer(at) => add_place(text, alloc, fault, at, image),
+        _ => Ok(false),
+    }
+}
+
+/// Adds the place of another fault.
 fn add_places(
     text: &mut String,
     alloc: Global,
@@ -35,24 +56,33 @@ fn add_places(
     sources: &Sources,
 ) -> Result<(), AllocError> {
     match fault {
-        Fault::Memory | Fault::Misplaced | Fault::BadSize | Fault::NoHostRoom | Fault::BadMove(_) =>
-            Ok(()),
+        Fault::Memory
+        | Fault::Misplaced
+        | Fault::BadSize
+        | Fault::NoHostRoom
+        | Fault::BadMove(_)
+        | Fault::BadBlock(_)
+        | Fault::BadIndex(_)
+        | Fault::DoubleOwner(_)
+        | Fault::Unowned(_)
+        | Fault::BadValue(_)
+        | Fault::BadFree(_)
+        | Fault::BadPointer(_) => Ok(()),
         Fault::BadHeader => add_bad_header(text, sources.image),
         Fault::BadType(number) => add_bad_type(text, number, sources.image),
         Fault::TypeMismatch(number) => add_mismatch(text, number, client, sources),
-        Fault::BadBlock(at)
-        | Fault::BadIndex(at)
-        | Fault::DoubleOwner(at)
-        | Fault::Unowned(at)
-        | Fault::BadValue(at)
-        | Fault::BadFree(at)
-        | Fault::BadPointer(at) => add_place(text, alloc, fault, at, sources.image),
         Fault::BadCode(at) => add_bad_code(text, sources.file(client), at),
         Fault::BadLine(number) => add_bad_line(text, sources.text, number),
         Fault::Rejected {
             instruction,
             reason,
-        } => add_rejection(text, alloc, sources.client(client), instruction, reason),
+        } => {
+            let rejected = Rejected {
+                number: instruction,
+                reason,
+            };
+            add_rejection(text, alloc, sources.client(client), sources.text, rejected)
+        }
         Fault::TooLong => add_bound(text, alloc, sources.client(client)),
     }
 }

@@ -1,7 +1,9 @@
 //! Explanations of faults in a client file.
 
 use crate::bytes::word;
-use crate::flaw::{Flaw, is_name};
+use crate::flaw::{Flaw, Right, is_name};
+use crate::mistaken::no_client;
+use crate::opened::Spot;
 use crate::outline::{Draft, MOST_CONSTANTS, Outline};
 use crate::rule;
 use client_code::{ConstantKind, ENTRY, Instruction, MAX_TYPES, MOST_INSTRUCTIONS, Operation};
@@ -90,10 +92,7 @@ impl<'a> File<'a> {
     fn field(&self, at: usize) -> Field {
         let constants_at = self.constants_at();
         match at {
-            0..=3 => Field::Header(
-                "the first 4 bytes",
-                "a client file begins with `SEGC`; the text of a client has to be assembled first, by segtool asm",
-            ),
+            0..=3 => Field::Header("the first 4 bytes", no_client(self.bytes)),
             4..=7 => Field::Header(
                 "the version",
                 "it should be 2 if a type is `shared`, else 1",
@@ -148,10 +147,11 @@ impl<'a> File<'a> {
 
     /// What is wrong with a type entry.
     fn type_flaw(&self, at: usize) -> Flaw<'static> {
-        match self.bytes.get(at..at.saturating_add(ENTRY)) {
-            None => Flaw::Unmet(rule::WHOLE),
-            Some(entry) => entry_flaw(entry, true),
-        }
+        let table = self
+            .bytes
+            .get(TYPES_AT..self.constants_at().min(self.bytes.len()))
+            .unwrap_or(&[]);
+        entry_flaw(table, at.saturating_sub(TYPES_AT) / ENTRY, true)
     }
 
     /// What is wrong with a constant.
@@ -179,7 +179,9 @@ impl<'a> File<'a> {
         match Draft::read(spelled) {
             Some(instruction) => {
                 let mut outline = self.outline(number);
-                outline.flaw(instruction).unwrap_or(Flaw::Unmet(rule::ANY))
+                outline
+                    .flaw(instruction, spot_of(number))
+                    .unwrap_or(Flaw::Unmet(rule::ANY))
             }
             None => Flaw::Number(
                 "",
@@ -190,13 +192,10 @@ impl<'a> File<'a> {
     }
 
     fn end_flaw(&self) -> Flaw<'static> {
-        if self
-            .outline(self.word(16).min(MOST_INSTRUCTIONS as usize))
-            .is_closed()
-        {
-            Flaw::Unmet(rule::ENDS)
-        } else {
-            Flaw::Unmet(rule::CLOSED)
+        let outline = self.outline(self.word(16).min(MOST_INSTRUCTIONS as usize));
+        match outline.innermost() {
+            Some(open) => Flaw::Unclosed(open),
+            None => Flaw::Unmet(rule::ENDS),
         }
     }
 
@@ -204,18 +203,18 @@ impl<'a> File<'a> {
     fn outline(&self, number: usize) -> Outline {
         let mut outline = Outline::new(self.type_count(), word(self.bytes, 4));
         let code = self.add_constants(&mut outline);
-        for spelled in self
-            .bytes
-            .get(code..)
-            .unwrap_or(&[])
-            .chunks_exact(Instruction::SIZE)
-            .take(number)
-        {
-            if let Some(operation) = Operation::from_number(spelled[0]) {
-                outline.pass(operation.row().role);
+        for at in 0..number {
+            if let Some(operation) = self.operation(code, at) {
+                outline.pass(operation, spot_of(at));
             }
         }
         outline
+    }
+
+    /// The operation of the instruction with this number, if the code begins at `code`.
+    fn operation(&self, code: usize, number: usize) -> Option<Operation> {
+        let at = code.saturating_add(number.saturating_mul(Instruction::SIZE));
+        Operation::from_number(*self.bytes.get(at)?)
     }
 
     /// Adds the constants, and returns the position after them.
@@ -232,26 +231,65 @@ impl<'a> File<'a> {
     }
 }
 
-/// What is wrong with an entry that is no valid type: its kind, its number of parts, or a rule for types that it breaks. `shares`
-/// is whether it may be the type of shared cells.
-pub(crate) fn entry_flaw(entry: &[u8], shares: bool) -> Flaw<'static> {
-    let [kind, parts, rest @ ..] = entry else {
+/// The place of the instruction with this number.
+fn spot_of(number: usize) -> Spot {
+    Spot::Instruction(u32::try_from(number).unwrap_or(u32::MAX))
+}
+
+/// What is wrong with the entry of a number in a type table that is no valid type. `shares` is whether it may be the type of shared
+/// cells.
+pub(crate) fn entry_flaw(table: &[u8], number: usize, shares: bool) -> Flaw<'static> {
+    let at = number.saturating_mul(ENTRY);
+    let Some([kind, count, rest @ ..]) = table.get(at..at.saturating_add(ENTRY)) else {
         return Flaw::Unmet(rule::WHOLE);
     };
-    let right = match kind {
-        1 | 2 => *parts == 0,
-        3..=7 => *parts == 1,
-        8 => matches!(parts, 1..=8),
-        9 if shares => *parts == 1,
-        _ if shares => return Flaw::Unmet(rule::MORE_KINDS),
-        _ => return Flaw::Unmet(rule::KINDS),
+    let right = match *kind {
+        1 | 2 => *count == 0,
+        3..=7 => *count == 1,
+        8 => matches!(*count, 1..=8),
+        9 if shares => *count == 1,
+        _ if shares => return kind_flaw(*kind, rule::MORE_KINDS),
+        _ => return kind_flaw(*kind, rule::KINDS),
     };
     if !right {
-        return Flaw::Unmet(rule::PARTS);
+        return count_flaw(*kind, *count);
     }
-    let left = rest.get(usize::from(*parts)..).unwrap_or(&[]);
-    if left.iter().any(|byte| *byte != 0) {
+    let parts = rest.get(..usize::from(*count)).unwrap_or(&[]);
+    let zeros = rest.get(usize::from(*count)..).unwrap_or(&[]);
+    if zeros.iter().any(|byte| *byte != 0) {
         return Flaw::Unmet(rule::ZEROS);
     }
-    Flaw::Unmet(rule::TYPES)
+    parts_flaw(table, number, *kind == 8, parts)
+}
+
+fn kind_flaw(kind: u8, right: &'static str) -> Flaw<'static> {
+    Flaw::should("the kind of the type", u32::from(kind), Right::Words(right))
+}
+
+/// What is wrong with the number of components of a kind of type.
+fn count_flaw(kind: u8, count: u8) -> Flaw<'static> {
+    let right = match kind {
+        1 | 2 => "0",
+        8 => "1 to 8",
+        _ => "1",
+    };
+    Flaw::should(
+        "the number of components",
+        u32::from(count),
+        Right::Words(right),
+    )
+}
+
+/// What is wrong with the components of the type with a number.
+fn parts_flaw(table: &[u8], number: usize, is_struct: bool, parts: &[u8]) -> Flaw<'static> {
+    for part in parts {
+        let part = usize::from(*part);
+        if is_struct && part >= number {
+            return Flaw::Number("component ", part, " of the struct should come before it");
+        }
+        if matches!(table.get(part.saturating_mul(ENTRY)), None | Some(0)) {
+            return Flaw::Number("component ", part, " should be a type of the table");
+        }
+    }
+    Flaw::Unmet(rule::LARGE)
 }

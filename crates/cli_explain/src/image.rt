@@ -5,7 +5,7 @@ use crate::sources::types_of;
 use client_code::{MAX_TYPES, TypeId, TypeTable};
 use seg_block::{Block, HEAP_START, Kind, Tag, UNIT, block_at, block_of, is_live, tag_word};
 use seg_index::{
-    ENTRY, Heap, MAX_LEN, NameEntry, Region, Window, first_name, header, name_count, next_name,
+    ENTRY, Heap, MAX_LEN, NameEntry, Region, View, Window, first_name, name_count, next_name,
     unique,
 };
 use seg_seqfit::SeqFit;
@@ -28,6 +28,14 @@ impl ImageReader {
         }
     }
 
+    pub(crate) fn view(&self) -> View<'_> {
+        self.window().view()
+    }
+
+    pub(crate) fn types(&self) -> &TypeTable {
+        self.heap.types()
+    }
+
     fn window(&self) -> &Window<Global> {
         self.heap.window()
     }
@@ -35,11 +43,6 @@ impl ImageReader {
     /// The position that the pointer at a byte points to.
     pub(crate) fn target(&self, at: u32) -> Option<u32> {
         self.window().target(at as usize)
-    }
-
-    /// Whether the image's version has frozen objects.
-    pub(crate) fn shares(&self) -> bool {
-        header::shares(self.window().view())
     }
 
     /// Whether a frozen object's payload begins at a byte.
@@ -129,13 +132,14 @@ impl ImageReader {
         };
         let owner = match self.tag(block.at) {
             Some(tag) => Owner::Live(block.at, tag),
+            None if is_live(self.window(), block.at) => Owner::Unknown(block.at),
             None => Owner::Free(block.at),
         };
         Some(Location::Block(owner, area))
     }
 
     /// The tag of the block at a position, if it is allocated.
-    fn tag(&self, block: u32) -> Option<Tag> {
+    pub(crate) fn tag(&self, block: u32) -> Option<Tag> {
         let w = self.window();
         if is_live(w, block) {
             Tag::read(tag_word(w, block))
@@ -144,7 +148,8 @@ impl ImageReader {
         }
     }
 
-    fn block_around(&self, at: u32) -> Option<Block> {
+    /// The block that contains a byte.
+    pub(crate) fn block_around(&self, at: u32) -> Option<Block> {
         let w = self.window();
         let mut start = HEAP_START;
         for _ in 0..w.len() / UNIT {

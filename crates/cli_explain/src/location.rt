@@ -28,6 +28,8 @@ pub(crate) enum Owner<'a> {
     Unique(TypeId),
     /// An allocated block of an unknown object: its position and its tag.
     Live(u32, Tag),
+    /// An allocated block whose tag is wrong: its position.
+    Unknown(u32),
     /// A free block: its position.
     Free(u32),
 }
@@ -87,7 +89,7 @@ impl fmt::Display for Location<'_> {
 
 /// The contents of an allocated block.
 #[derive(Clone, Copy)]
-struct BlockContents(Tag);
+pub(crate) struct BlockContents(pub(crate) Tag);
 
 impl fmt::Display for BlockContents {
     fn fmt<W: fmt::Write>(&self, f: &mut fmt::Formatter<W>) -> fmt::Result {
@@ -117,6 +119,7 @@ impl fmt::Display for Owner<'_> {
                 let content = BlockContents(tag);
                 write!(f, "the block at {at}, {content}")
             }
+            Owner::Unknown(at) => write!(f, "the block at {at}"),
             Owner::Free(at) => write!(f, "the free block at {at}"),
         }
     }

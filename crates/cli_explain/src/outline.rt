@@ -1,9 +1,8 @@
 use crate::flaw::Flaw;
+use crate::opened::{OpenParts, Opened, Spot};
 use crate::rule;
 use arrayvec::ArrayVec;
-use client_code::{
-    ConstantKind, Instruction, Nesting, Number, Operand, Operation, REGISTERS, Role,
-};
+use client_code::{ConstantKind, Instruction, Number, Operand, Operation, REGISTERS, Role};
 
 /// The most constants of a client.
 pub(crate) const MOST_CONSTANTS: usize = 256;
@@ -45,7 +44,7 @@ pub(crate) struct Outline {
     /// The kinds of the constants.
     pub(crate) constants: ArrayVec<ConstantKind, MOST_CONSTANTS>,
     pub(crate) instructions: u32,
-    nesting: Nesting,
+    parts: OpenParts,
 }
 
 impl Outline {
@@ -55,7 +54,7 @@ impl Outline {
             version,
             constants: ArrayVec::new(),
             instructions: 0,
-            nesting: Nesting::new(),
+            parts: OpenParts::new(),
         }
     }
 
@@ -65,17 +64,18 @@ impl Outline {
     }
 
     /// Passes an instruction. Returns false if it is misplaced.
-    pub(crate) fn pass(&mut self, role: Role) -> bool {
+    pub(crate) fn pass(&mut self, operation: Operation, spot: Spot) -> bool {
         self.instructions = self.instructions.saturating_add(1);
-        self.nesting.pass(role)
+        self.parts.pass(operation, spot)
     }
 
-    pub(crate) fn is_closed(&self) -> bool {
-        self.nesting.is_closed()
+    /// The innermost part that is open.
+    pub(crate) fn innermost(&self) -> Option<Opened> {
+        self.parts.innermost()
     }
 
     /// The first thing that is wrong with an instruction at this place.
-    pub(crate) fn flaw(&mut self, instruction: Draft) -> Option<Flaw<'static>> {
+    pub(crate) fn flaw(&mut self, instruction: Draft, spot: Spot) -> Option<Flaw<'static>> {
         let row = instruction.operation.row();
         if row.version > self.version {
             return Some(Flaw::Unmet(rule::VERSION));
@@ -89,7 +89,23 @@ impl Outline {
         if let Some(flaw) = self.number_flaw(row.number, instruction) {
             return Some(flaw);
         }
-        (!self.pass(row.role)).then_some(Flaw::Unmet(rule::of_place(row.role)))
+        self.place_flaw(instruction.operation, spot)
+    }
+
+    /// What is wrong with the place of an instruction.
+    fn place_flaw(&mut self, operation: Operation, spot: Spot) -> Option<Flaw<'static>> {
+        let open = self.innermost();
+        if self.pass(operation, spot) {
+            return None;
+        }
+        Some(match operation.row().role {
+            Role::Else => Flaw::Misplaced(rule::ELSE, open),
+            Role::End => Flaw::Misplaced(rule::END, open),
+            Role::Plain | Role::Opener | Role::Loop => match open {
+                Some(open) => Flaw::Deep(open),
+                None => Flaw::Unmet(rule::ANY),
+            },
+        })
     }
 
     fn number_flaw(&self, number: Number, instruction: Draft) -> Option<Flaw<'static>> {

@@ -3,37 +3,81 @@
 use crate::names::Names;
 use crate::quoted::Quoted;
 use crate::registers::{Demand, used};
-use crate::replay::{Change, OpenPart, Replay};
-use crate::text::line;
+use crate::replay::{Change, How, OpenPart, Replay};
+use crate::text::{instruction_lines, line};
 use client_code::{Client, Gives, Instruction, REGISTERS, Role};
 use client_text::print;
 use client_verify::{Class, MOST_STEPS, PackedRegister, Reason, Registers};
 use std::alloc::{AllocError, Global};
+use std::fmt;
 use std::fmt::Write;
+
+/// The instruction with which a register's contents ended.
+#[derive(Clone, Copy)]
+struct Ended<'a> {
+    how: How,
+    shown: Quoted<'a>,
+    line: u32,
+}
+
+impl fmt::Display for Ended<'_> {
+    fn fmt<W: fmt::Write>(&self, f: &mut fmt::Formatter<W>) -> fmt::Result {
+        let part = match self.how {
+            How::Changed => "",
+            How::AfterSuccess(_) => "the success part ended at ",
+            How::AfterElse => "the else part ended at ",
+            How::AfterBody => "the body of the loop ended at ",
+        };
+        let (shown, line) = (self.shown, self.line);
+        write!(f, "{part}{shown} in line {line}")
+    }
+}
+
+/// How to have in a register what it contained in one part only.
+fn advice(change: Change) -> &'static str {
+    let is_number = change.held == PackedRegister::int();
+    match change.how {
+        How::Changed => "\n",
+        How::AfterSuccess(_) | How::AfterElse if is_number => "; set it in both parts\n",
+        How::AfterBody if is_number => "; set it before the loop too\n",
+        How::AfterSuccess(_) => "; use it inside the success part\n",
+        How::AfterElse => "; use it inside the else part\n",
+        How::AfterBody => "; use it inside the body\n",
+    }
+}
 
 /// A client up to the instruction that is refused.
 #[derive(Drop)]
 struct Refusal<'a> {
     replay: Replay,
     names: Names<'a>,
-    /// The client's canonical text.
-    printed: Vec<u8>,
-    /// How many lines of the text come before the code.
-    front: u32,
+    /// The client's text, as the user wrote it or as it is printed.
+    text: Vec<u8>,
+    /// The line of each instruction in it.
+    lines: Vec<usize>,
+    is_printed: bool,
 }
 
-/// Explains why the instruction with this number is refused.
+/// An instruction that is refused, by its number, and the reason.
+#[derive(Clone, Copy)]
+pub(crate) struct Rejected {
+    pub(crate) number: u32,
+    pub(crate) reason: u8,
+}
+
+/// Explains why an instruction is refused. `source` is the client's text, if the user wrote one.
 pub(crate) fn add_rejection(
     text: &mut String,
     alloc: Global,
     client: Option<Client>,
-    number: u32,
-    reason: u8,
+    source: Option<&[u8]>,
+    rejected: Rejected,
 ) -> Result<(), AllocError> {
     let Some(client) = client else {
         return Ok(());
     };
-    let refusal = Refusal::of(alloc, client, number)?;
+    let Rejected { number, reason } = rejected;
+    let refusal = Refusal::of(alloc, client, source, number)?;
     refusal.add_head(text, number)?;
     if let Some(instruction) = client.instruction(number) {
         refusal.add_registers(text, instruction, reason)?;
@@ -70,10 +114,12 @@ fn printed(alloc: Global, client: &Client) -> Result<Vec<u8>, AllocError> {
     }
 }
 
-/// How many lines of a client's text come before its code.
-fn lines_before(client: &Client) -> u32 {
-    let constants = u32::try_from(client.constants().len()).unwrap_or(u32::MAX);
-    client.type_count().saturating_add(constants)
+/// The text that the user wrote for a client, or else the printed one.
+fn text_of(alloc: Global, client: &Client, source: Option<&[u8]>) -> Result<Vec<u8>, AllocError> {
+    match source {
+        Some(source) => Vec::from_slice(alloc, source),
+        None => printed(alloc, client),
+    }
 }
 
 /// The rule for a reason.
@@ -90,30 +136,46 @@ fn rule(reason: u8) -> &'static str {
 }
 
 impl<'a> Refusal<'a> {
-    fn of(alloc: Global, client: Client<'a>, number: u32) -> Result<Refusal<'a>, AllocError> {
+    fn of(
+        alloc: Global,
+        client: Client<'a>,
+        source: Option<&[u8]>,
+        number: u32,
+    ) -> Result<Refusal<'a>, AllocError> {
+        let replay = Replay::until(alloc, &client, number)?;
+        let text = text_of(alloc, &client, source)?;
+        let lines = instruction_lines(alloc, text.as_slice())?;
         Ok(Refusal {
-            replay: Replay::until(alloc, &client, number)?,
+            replay,
             names: Names::of(client),
-            printed: printed(alloc, &client)?,
-            front: lines_before(&client),
+            text,
+            lines,
+            is_printed: source.is_none(),
         })
     }
 
-    /// The number of the instruction's line in the printed text.
+    /// The number of the instruction's line in the text.
     fn line_of(&self, number: u32) -> u32 {
-        self.front.saturating_add(number).saturating_add(1)
+        let line = self.lines.get(number as usize).copied().unwrap_or(0);
+        u32::try_from(line).unwrap_or(u32::MAX)
     }
 
     fn shown(&self, number: u32) -> Quoted<'_> {
-        Quoted(line(self.printed.as_slice(), self.line_of(number)).unwrap_or(&[]))
+        Quoted(
+            line(self.text.as_slice(), self.line_of(number))
+                .unwrap_or(&[])
+                .trim_ascii_start(),
+        )
     }
 
     fn add_head(&self, text: &mut String, number: u32) -> Result<(), AllocError> {
         let (at, shown) = (self.line_of(number), self.shown(number));
-        write!(
-            text,
-            "instruction {number}, line {at} of the text that `segtool print` writes: {shown}\n"
-        )
+        let whose = if self.is_printed {
+            " of the text that `segtool print` writes"
+        } else {
+            ""
+        };
+        write!(text, "instruction {number}, line {at}{whose}: {shown}\n")
     }
 
     fn registers(&self) -> &Registers {
@@ -167,22 +229,39 @@ impl<'a> Refusal<'a> {
     }
 
     fn add_ended(&self, text: &mut String, register: u8, change: Change) -> Result<(), AllocError> {
-        let Change { held, by } = change;
-        let (past, at, shown) = (self.names.past(held), self.line_of(by), self.shown(by));
-        write!(text, "r{register} {past}, until {shown} in line {at}")?;
-        self.add_again(text, held)?;
-        self.add_kept_by_end(text, by)?;
-        text.push('\n')
+        let (past, ended) = (self.names.past(change.held), self.ended(change));
+        write!(text, "r{register} {past}, until {ended}")?;
+        match change.how {
+            How::Changed => self.add_again(text, change.held)?,
+            How::AfterSuccess(otherwise) => self.add_otherwise(text, register, otherwise)?,
+            How::AfterElse => text.push_str("; the success part leaves nothing in it")?,
+            How::AfterBody => text.push_str(
+                "; after a loop a register contains what it did before",
+            )?,
+        }
+        text.push_str(advice(change))
     }
 
-    /// Adds which registers stay defined, if the instruction that ended one is an `END`.
-    fn add_kept_by_end(&self, text: &mut String, by: u32) -> Result<(), AllocError> {
-        match line(self.printed.as_slice(), self.line_of(by)).unwrap_or(&[]) {
-            b"END" => text.push_str(
-                "; after END a register is defined only if both parts leave the same kind of value in it, \
-or if it was defined before the loop",
-            ),
-            _ => Ok(()),
+    /// Adds what the else part left in a register, if it left something.
+    fn add_otherwise(
+        &self,
+        text: &mut String,
+        register: u8,
+        otherwise: PackedRegister,
+    ) -> Result<(), AllocError> {
+        if otherwise == PackedRegister::undefined() {
+            return Ok(());
+        }
+        let past = self.names.past(otherwise);
+        write!(text, "; at the end of the else part r{register} {past}")
+    }
+
+    /// The instruction with which a change came.
+    fn ended(&self, change: Change) -> Ended<'_> {
+        Ended {
+            how: change.how,
+            shown: self.shown(change.by),
+            line: self.line_of(change.by),
         }
     }
 
@@ -251,9 +330,9 @@ or if it was defined before the loop",
     /// Adds the last instruction that changed a register.
     fn add_since(&self, text: &mut String, register: u8) -> Result<(), AllocError> {
         match self.replay.change(register) {
-            Some(Change { held: _, by }) => {
-                let (at, shown) = (self.line_of(by), self.shown(by));
-                write!(text, ", since {shown} in line {at}")
+            Some(change) => {
+                let ended = self.ended(change);
+                write!(text, ", since {ended}")
             }
             None => Ok(()),
         }

@@ -8,7 +8,7 @@ pub struct Sources<'a> {
     pub image: Option<&'a [u8]>,
     /// The files of the clients, in the order of their runs.
     pub clients: &'a [&'a [u8]],
-    /// The assembler text of a client.
+    /// The assembler text of the client with the fault, if the user wrote one.
     pub text: Option<&'a [u8]>,
 }
 

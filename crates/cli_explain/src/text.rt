@@ -1,14 +1,17 @@
 //! Explanations of faults in a client's text.
 
 use crate::flaw::{Flaw, is_name};
+use crate::mistaken::no_text;
+use crate::opened::Spot;
 use crate::outline::{Draft, MOST_CONSTANTS, Outline, operand_words};
 use crate::pieces::Pieces;
 use crate::quoted::Quoted;
 use crate::rule;
+use crate::slip::slip;
 use client_code::{
     ConstantKind, Instruction, MAX_TYPES, MOST_INSTRUCTIONS, Number, Operand, Operation,
 };
-use std::alloc::AllocError;
+use std::alloc::{AllocError, Global};
 use std::fmt::Write;
 use std::str;
 
@@ -21,6 +24,23 @@ pub(crate) fn line(text: &[u8], number: u32) -> Option<&[u8]> {
     lines.next()
 }
 
+/// For each instruction of a text, its line, counted from 1.
+pub fn instruction_lines(alloc: Global, text: &[u8]) -> Result<Vec<usize>, AllocError> {
+    let mut found = Vec::new(alloc);
+    let mut lines = Pieces::lines(text);
+    let mut number = 0usize;
+    for _ in 0..=text.len() {
+        let Some(line) = lines.next() else {
+            break;
+        };
+        number = number.saturating_add(1);
+        if matches!(Statement::of(line), Statement::Instruction(_)) {
+            found.push(number)?;
+        }
+    }
+    Ok(found)
+}
+
 /// Quotes the line with this number, counted from 1, and explains what is wrong with it.
 pub(crate) fn add_bad_line(
     text: &mut String,
@@ -30,6 +50,9 @@ pub(crate) fn add_bad_line(
     let Some(source) = source else {
         return Ok(());
     };
+    if let Some(other) = no_text(source) {
+        return text.push_str(other);
+    }
     match meant_line(source, number) {
         Some(shown) => {
             let flaw = line_flaw(source, number, shown);
@@ -37,9 +60,17 @@ pub(crate) fn add_bad_line(
             write!(text, "line {number}: {shown}\n{flaw}\n")
         }
         None => {
-            let flaw = rule::CLOSED;
+            let flaw = unclosed(source, number);
             write!(text, "line {number}, after the last line: {flaw}\n")
         }
+    }
+}
+
+/// What is wrong with the end of a text, which has an open part.
+fn unclosed(source: &[u8], number: u32) -> Flaw<'static> {
+    match outline(source, number).innermost() {
+        Some(open) => Flaw::Unclosed(open),
+        None => Flaw::Unmet(rule::CLOSED),
     }
 }
 
@@ -52,12 +83,26 @@ fn meant_line(source: &[u8], number: u32) -> Option<&[u8]> {
     }
 }
 
-fn first_word(line: &[u8]) -> &[u8] {
+pub(crate) fn first_word(line: &[u8]) -> &[u8] {
     Pieces::words(line).next_word().unwrap_or(&[])
 }
 
+/// Whether the first line of a file that is neither empty nor a comment is one of a client's text.
+pub(crate) fn begins_as_text(bytes: &[u8]) -> bool {
+    let mut lines = Pieces::lines(bytes);
+    for _ in 0..bytes.len() {
+        match lines.next() {
+            Some([b';', ..]) => {}
+            Some(line) if first_word(line).is_empty() => {}
+            Some(line) => return Statement::of(line) != Statement::Unknown,
+            None => break,
+        }
+    }
+    false
+}
+
 /// The kind of a line, by its first word.
-#[derive(Clone, Copy)]
+#[derive(Clone, Copy, PartialEq, Eq)]
 enum Statement {
     Type,
     Constant(ConstantKind),
@@ -86,20 +131,20 @@ impl Statement {
 fn outline(source: &[u8], number: u32) -> Outline {
     let mut outline = Outline::new(type_count(source), version(source));
     let mut lines = Pieces::lines(source);
-    for _ in 1..number {
+    for at in 1..number {
         match lines.next() {
-            Some(line) => add_statement(&mut outline, Statement::of(line)),
+            Some(line) => add_statement(&mut outline, Statement::of(line), Spot::Line(at)),
             None => break,
         }
     }
     outline
 }
 
-fn add_statement(outline: &mut Outline, statement: Statement) {
+fn add_statement(outline: &mut Outline, statement: Statement, spot: Spot) {
     match statement {
         Statement::Constant(kind) => outline.add_constant(kind),
         Statement::Instruction(operation) => {
-            outline.pass(operation.row().role);
+            outline.pass(operation, spot);
         }
         Statement::Type | Statement::Unknown => {}
     }
@@ -134,6 +179,9 @@ fn version(source: &[u8]) -> u32 {
 }
 
 fn line_flaw<'a>(source: &[u8], number: u32, line: &'a [u8]) -> Flaw<'a> {
+    if let Some(flaw) = slip(line) {
+        return flaw;
+    }
     let outline = outline(source, number);
     let statement = Statement::of(line);
     if let Some(rule) = misplaced(&outline, statement) {
@@ -142,14 +190,13 @@ fn line_flaw<'a>(source: &[u8], number: u32, line: &'a [u8]) -> Flaw<'a> {
     let mut words = Pieces::words(line);
     let word = words.next_word();
     match statement {
-        Statement::Unknown => Flaw::Word(
-            word.unwrap_or(&[]),
-            "isn't an instruction, nor type, text, name or family; instructions are in capitals, and a comment is a line whose first byte is `;`",
-        ),
+        Statement::Unknown => Flaw::Word(word.unwrap_or(&[]), rule::KNOWN),
         Statement::Type => type_flaw(words, outline.types),
         Statement::Constant(ConstantKind::Text) => Flaw::Unmet(text_flaw(line)),
         Statement::Constant(kind) => name_flaw(source, number, kind, words),
-        Statement::Instruction(operation) => instruction_flaw(operation, words, outline),
+        Statement::Instruction(operation) => {
+            instruction_flaw(operation, words, outline, Spot::Line(number))
+        }
     }
 }
 
@@ -293,6 +340,7 @@ fn instruction_flaw<'a>(
     operation: Operation,
     mut words: Pieces<'a>,
     mut outline: Outline,
+    spot: Spot,
 ) -> Flaw<'a> {
     let (wanted, found) = (word_count(operation), words.count_words());
     if found != wanted {
@@ -303,7 +351,9 @@ fn instruction_flaw<'a>(
         };
     }
     match read_instruction(operation, &mut words) {
-        Ok(instruction) => outline.flaw(instruction).unwrap_or(Flaw::Unmet(rule::ANY)),
+        Ok(instruction) => outline
+            .flaw(instruction, spot)
+            .unwrap_or(Flaw::Unmet(rule::ANY)),
         Err(flaw) => flaw,
     }
 }

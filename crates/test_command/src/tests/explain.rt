@@ -1,7 +1,11 @@
 //! Explanations of refusals.
 
+mod broken;
+mod ended;
 mod files;
 mod images;
+mod mistaken;
 mod rejections;
+mod slips;
 mod sources;
 mod texts;

@@ -23,7 +23,7 @@ fn explained(alloc: Global, len: usize, at: usize, byte: u8) -> Result<Vec<u8>, 
 const CASES: &str = "
 === 103 0 115
 byte 0 of the client file begins the first 4 bytes, in the header
-a client file begins with `SEGC`; the text of a client has to be assembled first, by segtool asm
+a client file begins with `SEGC`; the name of a program should end in `.lez`
 === 103 4 2
 byte 4 of the client file begins the version, in the header
 it should be 2 if a type is `shared`, else 1
@@ -35,10 +35,10 @@ byte 8 of the client file begins the number of types, in the header
 it should be 0 to 32
 === 103 20 9
 byte 20 of the client file begins the entry of type 0
-i64 and str should have no component, a struct 1 to 8, and any other type one
+the number of components is 0, but should be 1
 === 103 20 10
 byte 20 of the client file begins the entry of type 0
-the kind of a type should be 1 to 9; an unused entry is all 0, and only unused entries may follow it
+the kind of the type is 10, but should be 1 to 9; an unused entry is all 0, and only unused entries may follow it
 === 103 35 1
 byte 20 of the client file begins the entry of type 0
 the bytes after the components should be 0
@@ -59,7 +59,7 @@ byte 47 of the client file begins instruction 1
 operand c should be 0, since the operation doesn't have it
 === 103 95 32
 byte 103 of the client file begins what follows the last instruction
-an END is missing: each instruction that can fail needs an ELSE and an END, and each loop an END
+the else part of FIND at instruction 0 is still open; each instruction that can fail needs an ELSE and an END, and each loop an END
 === 102 0 83
 byte 95 of the client file begins instruction 7
 the file ends inside it

@@ -6,7 +6,7 @@ use std::test::Fail;
 use support_data::{counter, equal};
 
 /// Explains why a client is refused on a segment without types.
-fn explained(alloc: Global, text: &str) -> Result<Vec<u8>, Fail> {
+pub(crate) fn explained(alloc: Global, text: &str) -> Result<Vec<u8>, Fail> {
     let file = assemble(alloc, text.as_bytes())?;
     match verify_typed(parse_typed(file.as_slice())?, &TypeTable::new()) {
         Ok(_client) => Ok(Vec::new(alloc)),
@@ -38,8 +38,8 @@ LOAD r1 r0
 ---
 instruction 3, line 6 of the text that `segtool print` writes: `LOAD r1 r0`
 r0 is undefined
-r0 contained a number, until `END` in line 5; after END a register is defined only if both parts leave the same kind of \
-value in it, or if it was defined before the loop
+r0 referred to a value of type 0 (i64) in the object named `a`, until the success part ended at `ELSE` in line 4; \
+at the end of the else part r0 contained a number; use it inside the success part
 r0 should refer to an i64
 each register has to contain what the instruction needs, whichever parts ran before it
 ===

@@ -5,7 +5,7 @@ use std::alloc::Global;
 use std::test::Fail;
 
 /// Explains the fault of a client's text.
-fn explained(alloc: Global, text: &str) -> Result<Vec<u8>, Fail> {
+pub(crate) fn explained(alloc: Global, text: &str) -> Result<Vec<u8>, Fail> {
     match assemble(alloc, text.as_bytes()) {
         Ok(_) => Ok(Vec::new(alloc)),
         Err(fault) => {
@@ -32,7 +32,7 @@ line 3: `FOO r1`
 ADD r0 r1
 ---
 line 1: `ADD r0 r1`
-the number of words after ADD should be 3, but is 2
+the number of words after ADD should be 3, but is 2: a register, a register, a register
 ===
 type i64
 type own t0
@@ -48,7 +48,7 @@ type shared t0
 SHARE r0 r1 r2
 ---
 line 3: `SHARE r0 r1 r2`
-the number of words after SHARE should be 2, but is 3
+the number of words after SHARE should be 2, but is 3: a register, a register
 ===
 CONST r16 1
 ---
@@ -115,7 +115,7 @@ the name should differ from those before it
 ===
 text a\\0g
 ---
-line 1: `text a\\\\0g`
+line 1: `text a\\0g`
 a text has the bytes 0x20 to 0x7e; any other byte, or a backslash, is a backslash and two of 0 to 9 and a to f
 ===
 CONST r0 1
@@ -128,12 +128,12 @@ CONST r0 1
 END
 ---
 line 2: `END`
-END ends an else part or the body of a loop, but none is open here; an ELSE may be missing
+END ends an else part or the body of a loop, but no part is open here
 ===
 ELSE
 ---
 line 1: `ELSE`
-ELSE ends the success part of an instruction that can fail, but none is open here
+ELSE ends the success part of an instruction that can fail, but no part is open here
 ===
 CONST r0 1
 WHILE r0 0
@@ -146,7 +146,7 @@ CONST r0 1
 IF r0
 ELSE
 ---
-line 4, after the last line: an END is missing: each instruction that can fail needs an ELSE and an END, and each loop an END
+line 4, after the last line: the else part of IF in line 2 is still open; each instruction that can fail needs an ELSE and an END, and each loop an END
 ";
 
 #[test]
