@@ -63,7 +63,7 @@ fn add_extent(lines: &mut IndentedText, block: Block) -> Result<(), AllocError> 
 }
 
 /// The object that a block belongs to.
-fn root_of<'a, 'b>(it: &OwnedBlock, roots: &'b [Root<'a>]) -> Option<&'b Root<'a>> {
+pub(crate) fn root_of<'a, 'b>(it: &OwnedBlock, roots: &'b [Root<'a>]) -> Option<&'b Root<'a>> {
     roots.get(it.root?)
 }
 
@@ -73,7 +73,7 @@ fn bar(units: u32, largest: u32) -> u32 {
     u32::try_from(length).unwrap_or(LONGEST_BAR).max(1)
 }
 
-fn add_owner(lines: &mut IndentedText, root: &Root) -> Result<(), AllocError> {
+pub(crate) fn add_owner(lines: &mut IndentedText, root: &Root) -> Result<(), AllocError> {
     lines.add(b" of ")?;
     match root.name {
         RootName::Named(name) => lines.add(name),

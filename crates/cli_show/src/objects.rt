@@ -75,6 +75,21 @@ pub(crate) fn text_of<'h, F: Fit>(heap: &'h Heap<F, Global>, text: Place) -> &'h
     heap.window().slice(from, heap.count(text.at) as usize)
 }
 
+/// A value in words on one line, without the values inside it.
+pub(crate) fn value_words<F: Fit>(
+    alloc: Global,
+    heap: &Heap<F, Global>,
+    value: Place,
+) -> Result<Vec<u8>, AllocError> {
+    let detail = Detail {
+        extent: Extent::Cut,
+        typed: false,
+    };
+    let mut shown = Shown::new(alloc, heap, detail, &[])?;
+    shown.add_content(value)?;
+    Ok(shown.lines.into_bytes())
+}
+
 /// Objects of a heap as lines.
 #[derive(Drop)]
 struct Shown<'h, F: Fit> {

@@ -9,6 +9,7 @@ mod files;
 mod images;
 mod language;
 mod overwriting;
+mod pictures;
 mod problems;
 mod programs;
 mod rows;

@@ -1,6 +1,6 @@
 //! The listings of images.
 
-use crate::tests::files::{Stored, counter_file, follow, play, play_each, run};
+use crate::tests::files::{Stored, follow, play, play_each, run};
 use std::alloc::Global;
 use std::test::Fail;
 use support_data::equal;
@@ -365,30 +365,5 @@ $ segtool run saved saved client",
     );
     let lines = nested_lines(rt.alloc())?;
     equal(printed.out.as_slice(), lines.as_bytes()).expect(&rt, "equal");
-    Ok(())
-}
-
-/// The picture of the counter: a row of two cells for the number and three for the index.
-const PICTURE: &str =
-    "<svg xmlns=\"http://www.w3.org/2000/svg\" viewBox=\"-8 0 1040 60\" font-family=\"sans-serif\" font-size=\"14\">
-<title>The heap of a segment</title>
-<style>.page{fill:#ffffff}text{fill:#1f2328}@media(prefers-color-scheme:dark){.page{fill:#0d1117}text{fill:#f0f6fc}[fill=\"#e8e8e8\"]{fill:#30363d}}</style>
-<rect class=\"page\" x=\"-8\" y=\"0\" width=\"1040\" height=\"60\" rx=\"8\"/>
-<rect x=\"0\" y=\"8\" width=\"16\" height=\"16\" fill=\"#0072b2\"/><text x=\"20\" y=\"21\">object</text>
-<rect x=\"90\" y=\"8\" width=\"16\" height=\"16\" fill=\"#56b4e9\"/><text x=\"110\" y=\"21\">buffer</text>
-<rect x=\"180\" y=\"8\" width=\"16\" height=\"16\" fill=\"#009e73\"/><text x=\"200\" y=\"21\">node</text>
-<rect x=\"270\" y=\"8\" width=\"16\" height=\"16\" fill=\"#e69f00\"/><text x=\"290\" y=\"21\">index</text>
-<rect x=\"360\" y=\"8\" width=\"16\" height=\"16\" fill=\"#e8e8e8\"/><text x=\"380\" y=\"21\">gap</text>
-<text x=\"450\" y=\"21\">a cell: 16 bytes</text>
-<rect x=\"0\" y=\"40\" width=\"15\" height=\"11\" fill=\"#0072b2\"/>
-<rect x=\"16\" y=\"40\" width=\"23\" height=\"11\" fill=\"#e69f00\"/>
-</svg>
-";
-
-#[test]
-fn draws_a_picture(rt: HostRuntime) -> Result<(), Fail> {
-    let mut files = counter_file(rt.alloc(), "image")?;
-    follow(rt.alloc(), &mut files, "$ segtool map image --svg saved")?;
-    equal(files.get("saved"), PICTURE.as_bytes()).expect(&rt, "equal");
     Ok(())
 }
