@@ -103,13 +103,10 @@ fn refused(lines: Result<String, AllocError>) -> Refusal {
 
 fn syntax_lines(report: Report<'_>, errors: &[script_syntax::Error]) -> Result<String, AllocError> {
     let mut report = report;
+    let text = report.text;
     for error in errors {
-        report.add(
-            "error",
-            error.span,
-            &error.message(report.text),
-            error.hint(),
-        )?;
+        let message = error.message(text);
+        report.add("error", error.span, &message, error.hint())?;
     }
     report.into_lines()
 }
@@ -127,8 +124,9 @@ fn error_lines(report: Report<'_>, wrong: &Wrong) -> Result<String, AllocError> 
 
 fn warning_lines(report: Report<'_>, warnings: &[Warning]) -> Result<String, AllocError> {
     let mut report = report;
+    let text = report.text;
     for warning in warnings {
-        let message = warning.message(report.text);
+        let message = warning.message(text);
         report.add("warning", warning.span, &message, warning.hint())?;
     }
     report.into_lines()
