@@ -36,7 +36,7 @@ pub fn printed(alloc: Global, file: &[u8]) -> Result<Vec<u8>, Fault> {
     print(alloc, &parse(file)?)
 }
 
-/// Stands for the position of a fault that has none.
+/// What a fault without a position has in its place.
 pub const NOWHERE: u32 = u32::MAX;
 
 /// The position of the fault in a file that is no client's.
