@@ -21,8 +21,8 @@ const COUNTER: &str = "<rect class=\"p\" x=\"-72\" width=\"1104\" height=\"60\" 
 ";
 
 /// The text of a picture, after its first line and its style.
-fn picture(files: &mut Stored) -> Result<&str, Fail> {
-    follow(Global, files, "\n$ segtool map image --svg saved")?;
+fn picture(alloc: Global, files: &mut Stored) -> Result<&str, Fail> {
+    follow(alloc, files, "\n$ segtool map image --svg saved")?;
     let text = str::from_utf8(files.get("saved")).unwrap_or("");
     let (_, rest) = text.split_once('\n').ok_or("no line")?;
     Ok(rest.strip_prefix(STYLE).ok_or("no style")?)
@@ -31,7 +31,7 @@ fn picture(files: &mut Stored) -> Result<&str, Fail> {
 #[test]
 fn draws_a_picture(rt: HostRuntime) -> Result<(), Fail> {
     let mut files = counter_file(rt.alloc(), "image")?;
-    equal(picture(&mut files)?, COUNTER).expect(&rt, "equal");
+    equal(picture(rt.alloc(), &mut files)?, COUNTER).expect(&rt, "equal");
     Ok(())
 }
 
@@ -43,12 +43,14 @@ fn escapes_names_in_pictures(rt: HostRuntime) -> Result<(), Fail> {
         "image",
         counter_where(rt.alloc(), "728=0x3c 756=0x10001")?.as_slice(),
     )?;
-    is_true(picture(&mut files)?.contains("object of &lt;, type 0, value: 41")).expect(&rt, "true");
+    is_true(picture(rt.alloc(), &mut files)?.contains("object of &lt;, type 0, value: 41")).expect(
+        &rt, "true",
+    );
     files.add(
         "image",
         counter_where(rt.alloc(), "728=0x26 756=0x10001")?.as_slice(),
     )?;
-    is_true(picture(&mut files)?.contains("object of &amp;, type 0, value: 41")).expect(
+    is_true(picture(rt.alloc(), &mut files)?.contains("object of &amp;, type 0, value: 41")).expect(
         &rt, "true",
     );
     Ok(())
@@ -59,7 +61,7 @@ fn escapes_names_in_pictures(rt: HostRuntime) -> Result<(), Fail> {
 fn draws_frozen_objects(rt: HostRuntime) -> Result<(), Fail> {
     let mut files = Stored::new(rt.alloc());
     files.add("image", sharing(rt.alloc())?.as_slice())?;
-    let drawn = picture(&mut files)?;
+    let drawn = picture(rt.alloc(), &mut files)?;
     is_true(drawn.contains("<rect class=\"f\" x=\"90\" y=\"8\"")).expect(&rt, "true");
     is_true(drawn.contains(" object of frozen 0, type 0, value: 7</title>")).expect(&rt, "true");
     is_true(drawn.contains(" object of b, type 1, value: frozen 0</title>")).expect(&rt, "true");
@@ -84,7 +86,7 @@ fn a_block_continues_in_the_next_row(rt: HostRuntime) -> Result<(), Fail> {
     )?;
     let image = Vec::from_slice(rt.alloc(), files.get("saved"))?;
     files.add("image", image.as_slice())?;
-    is_true(picture(&mut files)?.ends_with(TWO_ROWS)).expect(&rt, "true");
+    is_true(picture(rt.alloc(), &mut files)?.ends_with(TWO_ROWS)).expect(&rt, "true");
     Ok(())
 }
 
@@ -99,7 +101,7 @@ fn a_large_heap_has_few_shapes(rt: HostRuntime) -> Result<(), Fail> {
     )?;
     let image = Vec::from_slice(rt.alloc(), files.get("saved"))?;
     files.add("image", image.as_slice())?;
-    let drawn = picture(&mut files)?;
+    let drawn = picture(rt.alloc(), &mut files)?;
     is_true(drawn.contains("a cell: 32 bytes")).expect(&rt, "true");
     is_true(drawn.contains("<title>bytes 704 to 262143: mostly gap</title>")).expect(&rt, "true");
     equal(drawn.matches("<path").count(), 1).expect(&rt, "equal");
