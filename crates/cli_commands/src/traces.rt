@@ -104,9 +104,7 @@ impl Traced<'_, '_> {
     }
 
     /// Runs the clients, and writes their lines.
-    fn write<O: Sink>(&self, image: &mut Image<Global>, out: &mut O) -> Result<(), Untraced>
-        requires works { O.has_failed out.old ≡ false }
-    {
+    fn write<O: Sink>(&self, image: &mut Image<Global>, out: &mut O) -> Result<(), Untraced> {
         let mut input = self.input;
         for (number, client) in self.clients.iter().enumerate() {
             let text = self.texts.get(number).map(Vec::as_slice);
@@ -159,7 +157,7 @@ fn variables_in<'t>(
     Ok(variables)
 }
 
-/// Runs a client, and writes its lines. Returns how many bytes of the input it read.
+/// Runs a client, and writes its lines, unless the output has failed. Returns how many bytes of the input it read.
 fn write_client<O: Sink>(
     alloc: Global,
     image: &mut Image<Global>,
@@ -167,9 +165,10 @@ fn write_client<O: Sink>(
     input: &[u8],
     view: &View<'_>,
     out: &mut O,
-) -> Result<usize, Untraced>
-    requires works { O.has_failed out.old ≡ false }
-{
+) -> Result<usize, Untraced> {
+    if out.failed() {
+        return Err(Untraced::OutputFailed);
+    }
     match image {
         Image::Seq(segment) => trace_view(alloc, segment, client, input, view, out),
         Image::Best(segment) => trace_view(alloc, segment, client, input, view, out),
