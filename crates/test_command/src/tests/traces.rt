@@ -26,7 +26,7 @@ fn traced_files(alloc: Global) -> Result<Stored, Fail> {
 }
 
 /// Tests the traces of commands on these files.
-fn traces(alloc: Global, text: &str) -> Result<(), Fail> {
+fn traces(alloc: Global, text: &'static str) -> Result<(), Fail> {
     follow(alloc, &mut traced_files(alloc)?, text)
 }
 
