@@ -40,9 +40,10 @@ impl Report<'_> {
         message: &M,
         hint: Option<H>,
     ) -> Result<(), AllocError> {
-        let (file, line, column) = (self.file, span.line, span.column);
+        let (file, text) = (self.file, self.text);
+        let (line, column) = (span.line, span.column);
         write!(self.lines, "{file}:{line}:{column}: {head}: {message}\n")?;
-        write_source(&mut self.lines, self.text, span)?;
+        write_source(&mut self.lines, text, span)?;
         match hint {
             Some(hint) => write!(self.lines, "hint: {hint}\n"),
             None => Ok(()),
