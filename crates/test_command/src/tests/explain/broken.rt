@@ -51,7 +51,7 @@ fn explained(alloc: Global, contents: &[&str]) -> Result<Vec<u8>, Fail> {
 }
 
 /// Tests the explanation of each case: the changes of the contents, and after `---` the lines.
-fn explains(alloc: Global, contents: &[&str], cases: &str) -> Result<(), Fail> {
+fn explains<'a>(alloc: Global, contents: &[&'a str], cases: &'a str) -> Result<(), Fail> {
     is(&explained(alloc, contents)?, "")?;
     for case in cases.split("=== ").skip(1) {
         let (changes, wanted) = parts(case)?;
