@@ -107,12 +107,11 @@ impl Traced<'_, '_> {
     fn write<O: Sink>(&self, image: &mut Image<Global>, out: &mut O) -> Result<(), Untraced> {
         let mut input = self.input;
         for (number, client) in self.clients.iter().enumerate() {
-            let text = self.texts.get(number).map(Vec::as_slice);
-            let variables = variables_in(
-                self.alloc,
-                text.unwrap_or_default(),
-                client.variables.as_slice(),
-            )?;
+            let text = match self.texts.get(number) {
+                Some(text) => text.as_slice(),
+                None => &[],
+            };
+            let variables = variables_in(self.alloc, text, client.variables.as_slice())?;
             let view = View {
                 source: SourceMap {
                     lines: client.lines.as_slice(),
