@@ -141,8 +141,8 @@ static WRONG: [(&str, u32); 92] = [
     ("text \x1f", 1),
     ("text é", 1),
     ("name", 1),
-    ("name a ", 1),
-    ("name a#", 1),
+    ("name a b", 1),
+    ("name a#b", 1),
     ("name \x7f", 1),
     (
         "name aaaaaaaaaabbbbbbbbbbccccccccccddddddddddeeeeeeeeeeffffffffffgggg",
@@ -170,7 +170,7 @@ static WRONG: [(&str, u32); 92] = [
     ("type i64\ntype shared t0 t0", 2),
     ("type i64\ntype shared t2\nname x", 2),
     // the types determine the version, so another line is wrong
-    ("type i64\ntype shared t0\nname a#", 3),
+    ("type i64\ntype shared t0\nname a#b", 3),
     ("type struct", 1),
     ("type struct t0", 1),
     ("type struct t1\ntype i64", 1),
