@@ -22,7 +22,7 @@ const COUNTER: &str = "<rect class=\"p\" x=\"-72\" width=\"1104\" height=\"60\" 
 
 /// The text of a picture, after its first line and its style.
 fn picture(alloc: Global, files: &mut Stored) -> Result<&str, Fail> {
-    follow(alloc, files, "\n$ segtool map image --svg saved")?;
+    follow(alloc, files, "$ segtool map image --svg saved")?;
     let text = str::from_utf8(files.get("saved")).unwrap_or("");
     let (_, rest) = text.split_once('\n').ok_or("no line")?;
     Ok(rest.strip_prefix(STYLE).ok_or("no style")?)
@@ -79,13 +79,7 @@ const TWO_ROWS: &str =
 #[test]
 fn a_block_continues_in_the_next_row(rt: HostRuntime) -> Result<(), Fail> {
     let mut files = Stored::new(rt.alloc());
-    follow(
-        rt.alloc(),
-        &mut files,
-        "\n$ segtool new saved 4096 seq flat",
-    )?;
-    let image = Vec::from_slice(rt.alloc(), files.get("saved"))?;
-    files.add("image", image.as_slice())?;
+    follow(rt.alloc(), &mut files, "$ segtool new image 4096 seq flat")?;
     is_true(picture(rt.alloc(), &mut files)?.ends_with(TWO_ROWS)).expect(&rt, "true");
     Ok(())
 }
@@ -97,10 +91,8 @@ fn a_large_heap_has_few_shapes(rt: HostRuntime) -> Result<(), Fail> {
     follow(
         rt.alloc(),
         &mut files,
-        "\n$ segtool new saved 262144 seq flat",
+        "$ segtool new image 262144 seq flat",
     )?;
-    let image = Vec::from_slice(rt.alloc(), files.get("saved"))?;
-    files.add("image", image.as_slice())?;
     let drawn = picture(rt.alloc(), &mut files)?;
     is_true(drawn.contains("a cell: 32 bytes")).expect(&rt, "true");
     is_true(drawn.contains("<title>bytes 704 to 262143: mostly gap</title>")).expect(&rt, "true");
