@@ -22,8 +22,8 @@ const COUNTER: &str = "<rect class=\"p\" x=\"-72\" width=\"1104\" height=\"60\" 
 
 /// The text of a picture, after its first line and its style.
 fn picture(alloc: Global, files: &mut Stored) -> Result<&str, Fail> {
-    follow(alloc, files, "$ segtool map image --svg saved")?;
-    let text = str::from_utf8(files.get("saved")).unwrap_or("");
+    follow(alloc, files, "$ segtool map image --svg copy")?;
+    let text = str::from_utf8(files.get("copy")).unwrap_or("");
     let (_, rest) = text.split_once('\n').ok_or("no line")?;
     Ok(rest.strip_prefix(STYLE).ok_or("no style")?)
 }
@@ -79,7 +79,12 @@ const TWO_ROWS: &str =
 #[test]
 fn a_block_continues_in_the_next_row(rt: HostRuntime) -> Result<(), Fail> {
     let mut files = Stored::new(rt.alloc());
-    follow(rt.alloc(), &mut files, "$ segtool new image 4096 seq flat")?;
+    follow(
+        rt.alloc(),
+        &mut files,
+        "$ segtool new saved 4096 seq flat
+$ copy image saved",
+    )?;
     is_true(picture(rt.alloc(), &mut files)?.ends_with(TWO_ROWS)).expect(&rt, "true");
     Ok(())
 }
@@ -91,7 +96,8 @@ fn a_large_heap_has_few_shapes(rt: HostRuntime) -> Result<(), Fail> {
     follow(
         rt.alloc(),
         &mut files,
-        "$ segtool new image 262144 seq flat",
+        "$ segtool new saved 262144 seq flat
+$ copy image saved",
     )?;
     let drawn = picture(rt.alloc(), &mut files)?;
     is_true(drawn.contains("a cell: 32 bytes")).expect(&rt, "true");
