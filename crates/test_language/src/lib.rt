@@ -1,4 +1,4 @@
-//! Tests of the client language (files, assembler text, and the verifier), and in `script` of the reader of programs.
+//! Tests of clients' files, of their texts, and of the verifier.
 #![tactic(auto)]
 
 #[cfg(test)]

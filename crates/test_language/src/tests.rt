@@ -4,7 +4,6 @@ mod files;
 mod operations;
 mod programs;
 mod random;
-mod script;
 mod sharing;
 mod support;
 mod texts;
