@@ -6,9 +6,8 @@ use lezgauri::{
 };
 use lezgauri_uses::new_counter;
 use std::alloc::Global;
-use std::process::Abort;
 use std::test::Fail;
-use support_data::{INCREMENT_FILE, Limited, counter, equal};
+use support_data::{INCREMENT_FILE, Limited, counter, equal, is_true};
 
 /// The image in these bytes, if it is sound.
 pub(crate) fn opened(alloc: Global, bytes: Vec<u8>) -> Option<Image<Global>> {
@@ -16,6 +15,11 @@ pub(crate) fn opened(alloc: Global, bytes: Vec<u8>) -> Option<Image<Global>> {
         Ok(image) => Some(image),
         Err(_unopened) => None,
     }
+}
+
+/// The counter's image, opened.
+fn opened_counter(alloc: Global) -> Result<Image<Global>, Fail> {
+    Ok(opened(alloc, counter(alloc)?).ok_or("unsound")?)
 }
 
 /// Verifies and prepares a client.
@@ -27,45 +31,41 @@ pub(crate) fn ready<'c>(
     Ok(prepare(alloc, verify(image, client)?)?)
 }
 
-/// Runs a client without input, and returns its report and its output.
+/// Runs a client without input. Returns its report, and whether it printed this line.
 fn ran(
     alloc: Global,
     image: &mut Image<Global>,
     client: &Ready<Global>,
-) -> Result<(Report, Vec<u8>), Fault> {
+    line: &[u8],
+) -> Result<(Report, bool), Fault> {
     let mut out = Through::new(Limited::unlimited(alloc));
     let report = run(image, client, b"", &mut out)?;
-    Ok((report, out.into_inner().bytes))
+    Ok((report, out.into_inner().bytes.as_slice() == line))
 }
 
-/// Runs the increment client. It takes six steps, since `ELSE` and `END` aren't steps.
-fn increments(
-    rt: &(impl Abort + AllocGlobal),
-    image: &mut Image<Global>,
-    client: &Ready<Global>,
-    line: &[u8],
-) -> Result<(), Fault> {
-    let done = Report {
-        steps: 6,
-        read: 0,
-        ended: Ended::Done,
-    };
-    let (report, written) = ran(rt.alloc(), image, client)?;
-    equal(report, done).expect(rt, "report");
-    equal(written.as_slice(), line).expect(rt, "written");
-    Ok(())
+/// The report of the increment client. It takes six steps, since `ELSE` and `END` aren't steps.
+const DONE: Report = Report {
+    steps: 6,
+    read: 0,
+    ended: Ended::Done,
+};
+
+/// Two runs of one client: 41 + 1 + 1. Returns whether they did what they should.
+fn increments(alloc: Global, image: &mut Image<Global>) -> Result<bool, Fault> {
+    let client = ready(alloc, image, &INCREMENT_FILE)?;
+    let first = ran(alloc, image, &client, b"42\n")?;
+    let second = ran(alloc, image, &client, b"43\n")?;
+    Ok(first == (DONE, true) && second == (DONE, true))
 }
 
-/// Two runs of one client: 41 + 1 + 1. The image is sound afterwards.
+/// The image is sound after the runs.
 #[test]
 fn clients_run_in_turn(rt: HostRuntime) -> Result<(), Fail> {
-    let mut image = opened(rt.alloc(), counter(rt.alloc())?).ok_or("unsound")?;
-    let client = ready(rt.alloc(), &image, &INCREMENT_FILE)?;
-    increments(&rt, &mut image, &client, b"42\n")?;
-    increments(&rt, &mut image, &client, b"43\n")?;
+    let mut image = opened_counter(rt.alloc())?;
+    is_true(increments(rt.alloc(), &mut image)?).expect(&rt, "run");
     let number = image.find(b"x", 0).and_then(|x| image.load(x));
     equal(number, Ok(43)).expect(&rt, "number");
-    check(rt.alloc(), image.save(rt.alloc())?.as_slice())?;
+    check(rt.alloc(), image.bytes())?;
     Ok(())
 }
 
@@ -76,17 +76,28 @@ fn of_texts(alloc: Global) -> Result<Image<Global>, Fail> {
     Ok(image)
 }
 
-/// A client that was verified on one image doesn't run on another with other types. Half a client isn't verified.
+/// The fault of a run of the increment client on an image, after it was verified on the counter's image.
+fn fault_on(alloc: Global, image: &mut Image<Global>) -> Result<Option<Fault>, Fail> {
+    let on_counter = opened_counter(alloc)?;
+    let client = ready(alloc, &on_counter, &INCREMENT_FILE)?;
+    Ok(ran(alloc, image, &client, b"").err())
+}
+
+/// A client that was verified on one image doesn't run on another with other types.
 #[test]
 fn a_client_of_other_types_does_not_run(rt: HostRuntime) -> Result<(), Fail> {
-    let image = opened(rt.alloc(), counter(rt.alloc())?).ok_or("unsound")?;
-    let cut = verify(&image, &INCREMENT_FILE[..102]).err();
-    equal(cut, Some(Fault::BadCode(95))).expect(&rt, "cut");
-    let client = ready(rt.alloc(), &image, &INCREMENT_FILE)?;
     let mut other = of_texts(rt.alloc())?;
     let before = other.save(rt.alloc())?;
-    let refused = ran(rt.alloc(), &mut other, &client).err();
-    equal(refused, Some(Fault::TypeMismatch(0))).expect(&rt, "refused");
+    let fault = fault_on(rt.alloc(), &mut other)?;
+    equal(fault, Some(Fault::TypeMismatch(0))).expect(&rt, "refused");
     equal(other.bytes(), before.as_slice()).expect(&rt, "unchanged");
+    Ok(())
+}
+
+#[test]
+fn half_a_client_is_not_verified(rt: HostRuntime) -> Result<(), Fail> {
+    let image = opened_counter(rt.alloc())?;
+    let cut = verify(&image, &INCREMENT_FILE[..102]).err();
+    equal(cut, Some(Fault::BadCode(95))).expect(&rt, "cut");
     Ok(())
 }

@@ -1,11 +1,10 @@
 //! Calls on clients while the host is out of memory. Each reports that, and has written nothing.
 
-use lezgauri::{Fault, Outcome, Refused, Schedule, Through, assemble, parse, print, run_bytes};
+use lezgauri::{Fault, Refused, Schedule, Through, assemble, parse, print, run_bytes};
 use linked_list_allocator::LocalHeap;
 use std::alloc::Global;
-use std::process::Abort;
 use std::test::Fail;
-use support_data::{INCREMENT, INCREMENT_FILE, Limited, counter, equal, is_true};
+use support_data::{INCREMENT, INCREMENT_FILE, Limited, counter};
 
 /// A region of the counter's length.
 const SCHEDULE: Schedule<'static> = Schedule {
@@ -13,66 +12,6 @@ const SCHEDULE: Schedule<'static> = Schedule {
     base: 0,
     moves: &[],
 };
-
-/// Runs the increment client on an image in this memory. Returns the outcome, and what was written.
-fn outcome_in<'h>(
-    alloc: Global,
-    heap: &'h LocalHeap,
-    image: &[u8],
-) -> (Result<Outcome<&'h LocalHeap>, Refused>, Vec<u8>) {
-    let clients = [INCREMENT_FILE.as_slice()];
-    let mut out = Through::new(Limited::unlimited(alloc));
-    let outcome = run_bytes(heap, image, clients.as_slice(), b"", &SCHEDULE, &mut out);
-    (outcome, out.into_inner().bytes)
-}
-
-/// Whether a run was complete. Otherwise tests that it was refused for lack of memory.
-fn is_complete(rt: &impl Abort, outcome: Result<Outcome<&LocalHeap>, Refused>) -> bool {
-    match outcome {
-        Ok(outcome) => {
-            equal(outcome.image.len(), 784).expect(rt, "saved");
-            true
-        }
-        Err(refused) => {
-            equal(refused, Refused::from(Fault::Memory)).expect(rt, "refused");
-            false
-        }
-    }
-}
-
-/// Runs a client with this many bytes of host memory. Either it is refused for lack of memory before anything is written, or it
-/// runs completely. Returns whether it ran.
-fn runs_within(rt: &(impl Abort + AllocGlobal), size: usize) -> Result<bool, Fail> {
-    let heap = LocalHeap::new(rt.alloc(), size)?;
-    let image = counter(rt.alloc())?;
-    let (outcome, written) = outcome_in(rt.alloc(), &heap, image.as_slice());
-    let ran = is_complete(rt, outcome);
-    let wanted = if ran { b"42\n".as_slice() } else { b"" };
-    equal(written.as_slice(), wanted).expect(rt, "written");
-    Ok(ran)
-}
-
-/// Assembles a client, or returns the fault. Tests that the whole file is returned.
-fn assembles(rt: &impl Abort, heap: &LocalHeap) -> Option<Fault> {
-    match assemble(heap, INCREMENT.as_bytes()) {
-        Ok(file) => {
-            equal(file.as_slice(), INCREMENT_FILE.as_slice()).expect(rt, "file");
-            None
-        }
-        Err(fault) => Some(fault),
-    }
-}
-
-/// Prints a client, or returns the fault. Tests that the whole text is returned.
-fn prints(rt: &impl Abort, heap: &LocalHeap) -> Option<Fault> {
-    match parse(&INCREMENT_FILE).and_then(|client| print(heap, &client)) {
-        Ok(text) => {
-            equal(text.as_slice(), INCREMENT.as_bytes()).expect(rt, "text");
-            None
-        }
-        Err(fault) => Some(fault),
-    }
-}
 
 /// A call that allocates host memory.
 #[derive(Debug, Clone, Copy)]
@@ -82,24 +21,76 @@ enum Call {
     Print,
 }
 
-/// Makes a call with this many bytes of host memory, and returns whether it succeeded. Otherwise tests that it was refused for lack
-/// of memory.
-fn succeeds_within(rt: &(impl Abort + AllocGlobal), call: Call, size: usize) -> Result<bool, Fail> {
-    let fault = match call {
-        Call::Run => return runs_within(rt, size),
-        Call::Assemble => assembles(rt, &LocalHeap::new(rt.alloc(), size)?),
-        Call::Print => prints(rt, &LocalHeap::new(rt.alloc(), size)?),
-    };
-    is_true(fault.is_none() || fault == Some(Fault::Memory)).expect(rt, "out of memory");
-    Ok(fault.is_none())
+/// Runs the increment client on an image in this memory. Returns the length of the saved image.
+fn run_within(
+    heap: &LocalHeap,
+    image: &[u8],
+    out: &mut Through<Limited>,
+) -> Result<usize, Refused> {
+    let clients = [INCREMENT_FILE.as_slice()];
+    let outcome = run_bytes(heap, image, clients.as_slice(), b"", &SCHEDULE, out)?;
+    Ok(outcome.image.len())
+}
+
+/// Either the client runs completely, or it is refused for lack of memory before anything is written.
+fn runs(alloc: Global, heap: &LocalHeap) -> Result<Option<Fault>, Fail> {
+    let image = counter(alloc)?;
+    let mut out = Through::new(Limited::unlimited(alloc));
+    let ran = run_within(heap, image.as_slice(), &mut out);
+    ended(ran, out.into_inner().bytes.as_slice())
+}
+
+fn ended(ran: Result<usize, Refused>, written: &[u8]) -> Result<Option<Fault>, Fail> {
+    match ran {
+        Ok(len) if len == 784 && written == b"42\n".as_slice() => Ok(None),
+        Err(refused) if refused == Refused::from(Fault::Memory) && written.is_empty() => {
+            Ok(Some(Fault::Memory))
+        }
+        _ => Err(Fail::new("the run ended otherwise")),
+    }
+}
+
+/// Tests that a call returned all of its result.
+fn whole(found: &[u8], wanted: &[u8]) -> Result<Option<Fault>, Fail> {
+    if found == wanted {
+        Ok(None)
+    } else {
+        Err(Fail::new("a part of the result"))
+    }
+}
+
+fn assembles(heap: &LocalHeap) -> Result<Option<Fault>, Fail> {
+    match assemble(heap, INCREMENT.as_bytes()) {
+        Ok(file) => whole(file.as_slice(), INCREMENT_FILE.as_slice()),
+        Err(fault) => Ok(Some(fault)),
+    }
+}
+
+fn prints(heap: &LocalHeap) -> Result<Option<Fault>, Fail> {
+    match print(heap, &parse(&INCREMENT_FILE)?) {
+        Ok(text) => whole(text.as_slice(), INCREMENT.as_bytes()),
+        Err(fault) => Ok(Some(fault)),
+    }
+}
+
+/// The fault of a call with this many bytes of host memory. `None` if it succeeds, with its whole result.
+fn fault_of(alloc: Global, call: Call, size: usize) -> Result<Option<Fault>, Fail> {
+    let heap = LocalHeap::new(alloc, size)?;
+    match call {
+        Call::Run => runs(alloc, &heap),
+        Call::Assemble => assembles(&heap),
+        Call::Print => prints(&heap),
+    }
 }
 
 /// How often a call is out of memory as the memory increases, from too little for the first request to enough for all, so that each
 /// request is refused once.
-fn refusals_of(rt: &(impl Abort + AllocGlobal), call: Call) -> Result<usize, Fail> {
+fn refusals_of(alloc: Global, call: Call) -> Result<usize, Fail> {
     for size in 1..512usize {
-        if succeeds_within(rt, call, size * 16)? {
-            return Ok(size - 1);
+        match fault_of(alloc, call, size * 16)? {
+            None => return Ok(size - 1),
+            Some(Fault::Memory) => {}
+            Some(fault) => return Err(Fail::from(fault)),
         }
     }
     Err(Fail::from("never enough"))
@@ -111,7 +102,7 @@ static CALLS: [(Call, usize); 3] = [(Call::Run, 50), (Call::Assemble, 1), (Call:
 #[test]
 fn calls_answer_memory_until_there_is_enough(rt: HostRuntime) -> Result<(), Fail> {
     for (call, least) in &CALLS {
-        assert!(rt; refusals_of(&rt, *call)? >= *least, "{call:?}");
+        assert!(rt; refusals_of(rt.alloc(), *call)? >= *least, "{call:?}");
     }
     Ok(())
 }
