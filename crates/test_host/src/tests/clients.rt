@@ -65,7 +65,7 @@ fn clients_run_in_turn(rt: HostRuntime) -> Result<(), Fail> {
     is_true(increments(rt.alloc(), &mut image)?).expect(&rt, "run");
     let number = image.find(b"x", 0).and_then(|x| image.load(x));
     equal(number, Ok(43)).expect(&rt, "number");
-    check(rt.alloc(), image.bytes())?;
+    check(rt.alloc(), image.save(rt.alloc())?.as_slice())?;
     Ok(())
 }
 
