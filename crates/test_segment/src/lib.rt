@@ -1,5 +1,5 @@
-//! Tests of everything from a region to a checked segment, over both allocators and both indexes: regions, windows, type tables
-//! and trees; blocks, values, containers and names worked out by hand; whole segments; and the checker, on images that the library
+//! Tests of everything from a region to an open image, over both allocators and both indexes: regions, windows, type tables and
+//! trees; each call on an image, with the blocks that it leaves, worked out by hand; and the checker, on images that the library
 //! makes or that are written block by block, each of which is accepted, and on changes that make each fault.
 #![tactic(auto)]
 

@@ -6,7 +6,6 @@ use crate::tests::image::{ImageBuilder, checks};
 use seg_manager::Fault;
 use std::alloc::Global;
 use std::ops::Range;
-use std::process::Abort;
 use std::test::Fail;
 use support_data::{counter, equal};
 
@@ -74,55 +73,59 @@ fn is_harmless(text: &str, at: usize, byte: u8) -> bool {
     }
 }
 
-/// Changes each of these bytes to each other value, and tests that exactly the harmless changes are accepted. Returns how many
+/// Changes the byte at a position to each other value, and tests that exactly the harmless changes are accepted. Counts how many
 /// changes had each result.
-fn change_each(
-    rt: &(impl Abort + AllocGlobal),
+fn change_byte(
+    alloc: Global,
+    image: &mut ImageBuilder,
     text: &str,
-    bytes: Range<usize>,
-) -> Result<[u32; 8], Fail> {
-    let mut image = ImageBuilder::of(rt.alloc(), text)?;
+    at: usize,
+    results: &mut [u32; 8],
+) -> Result<(), Fail> {
+    let old = image.w.get8(at);
+    for byte in 0..=255u8 {
+        if byte != old {
+            image.w.put8(at, byte);
+            let fault = image.fault(alloc);
+            if fault.is_none() != is_harmless(text, at, byte) {
+                return Err(Fail::new(format_args!("{byte} at {at}")));
+            }
+            let index = count_index(fault);
+            results[index] = results[index].saturating_add(1);
+        }
+    }
+    image.w.put8(at, old);
+    Ok(())
+}
+
+/// Does that with each of these bytes. Returns how many changes had each result.
+fn change_each(alloc: Global, text: &str, bytes: Range<usize>) -> Result<[u32; 8], Fail> {
+    let mut image = ImageBuilder::of(alloc, text)?;
     let mut results = [0u32; 8];
     for at in bytes {
-        let old = image.w.get8(at);
-        for byte in 0..=255u8 {
-            if byte != old {
-                image.w.put8(at, byte);
-                let fault = image.fault(rt.alloc());
-                assert!(rt;
-                    fault.is_none() == is_harmless(text, at, byte),
-                    "{byte} at {at}"
-                );
-                let index = count_index(fault);
-                results[index] = results[index].saturating_add(1);
-            }
-        }
-        image.w.put8(at, old);
+        change_byte(alloc, &mut image, text, at, &mut results)?;
     }
     Ok(results)
 }
 
 #[test]
 fn finds_each_changed_byte_of_the_counter(rt: HostRuntime) -> Result<(), Fail> {
-    let results = change_each(&rt, COUNTER, 0..784)?;
+    let results = change_each(rt.alloc(), COUNTER, 0..784)?;
     // accepted: version, allocator, second type, name, and the number with what the name and the index don't use
     let accepted = 1 + 1 + 2 + 93 + (8 + 7 + 24) * 255;
     // header, types, block, free, index, pointer, other
-    equal(
-        results,
-        [accepted, 13_257, 130_556, 8_154, 1_020, 622, 36_269, 0],
-    )
-    .expect(&rt, "equal");
+    let wanted = [accepted, 13_257, 130_556, 8_154, 1_020, 622, 36_269, 0];
+    equal(results, wanted).expect(&rt, "equal");
     Ok(())
 }
 
 /// The types and the unique objects, between the first 64 bytes and the heap, are left out.
 #[test]
 fn finds_changed_bytes_of_the_counter_in_version_2(rt: HostRuntime) -> Result<(), Fail> {
-    let front = change_each(&rt, COUNTER_2, 0..64)?;
+    let front = change_each(rt.alloc(), COUNTER_2, 0..64)?;
     // version, allocator, and the next number
     equal(front[0], 1 + 1 + 4 * 255).expect(&rt, "equal");
-    let heap = change_each(&rt, COUNTER_2, 704..784)?;
+    let heap = change_each(rt.alloc(), COUNTER_2, 704..784)?;
     // letters, and bytes that aren't used
     equal(heap[0], 93 + (8 + 7 + 24) * 255).expect(&rt, "equal");
     Ok(())
@@ -130,7 +133,7 @@ fn finds_changed_bytes_of_the_counter_in_version_2(rt: HostRuntime) -> Result<()
 
 #[test]
 fn finds_each_changed_byte_of_the_greeting(rt: HostRuntime) -> Result<(), Fail> {
-    let results = change_each(&rt, GREETING, 0..816)?;
+    let results = change_each(rt.alloc(), GREETING, 0..816)?;
     // version, allocator, types, letters, lengths, and bytes that aren't used
     equal(results[0], 1 + 1 + 2 + 93 + 16 + (7 + 24 + 16) * 255).expect(&rt, "equal");
     Ok(())

@@ -11,7 +11,8 @@
 //! bits; `at->named` or `at->null` for a pointer. A block is `named`; an `object` (`unique` if its type's pointer for unique
 //! objects points to it); a `buffer`; a `node`; an `index` or an `index_node`, for names; or `frozen`, an object that cells
 //! share. A fault is written as what is wrong, and where: `header`, `type`, `block`, `free`, `index`, `pointer`, `twice` for two
-//! owners, `unowned` or `value`; `sound` is no fault. An image has version 1, unless 8=2 sets another.
+//! owners, `unowned`, `value`, or `size` for a wrong size of a segment; `sound` is no fault. An image has version 1, unless 8=2
+//! sets another.
 
 use crate::tests::support::{first_fault, window};
 use seg_manager::header::{SIZE, TYPES, UNIQUES};
@@ -235,7 +236,7 @@ fn type_id(word: &str) -> Option<u8> {
 }
 
 /// Whether a fault is the one that these words describe.
-fn is_told(fault: Option<Fault>, words: &str) -> bool {
+pub(crate) fn is_told(fault: Option<Fault>, words: &str) -> bool {
     let (kind, at) = in_words(fault);
     match words.trim().split_once(' ') {
         Some((told, told_at)) => kind == told && number(told_at) == at,
@@ -247,6 +248,7 @@ fn is_told(fault: Option<Fault>, words: &str) -> bool {
 fn in_words(fault: Option<Fault>) -> (&'static str, Option<u32>) {
     match fault {
         None => ("sound", None),
+        Some(Fault::BadSize) => ("size", None),
         Some(Fault::BadHeader) => ("header", None),
         Some(Fault::BadType(t)) => ("type", Some(t)),
         Some(Fault::BadBlock(at)) => ("block", Some(at)),

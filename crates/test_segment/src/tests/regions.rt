@@ -80,11 +80,15 @@ fn reads_what_it_wrote(rt: HostRuntime) -> Result<(), Fail> {
     region.put8(3, 5);
     region.copy_in(20, &[5, 6]);
     region.move_within(3, 4, 5);
-    equal(region.slice(2, 8), [7, 5, 5, 1, 2, 3, 4, 2].as_slice()).expect(&rt, "equal");
-    equal(region.get8(20), 5).expect(&rt, "equal");
-    equal(region.get32(4), 0x0302_0105).expect(&rt, "equal");
-    equal(region.get64(16), 0x0707_0605_0707_0707).expect(&rt, "equal");
-    equal(region.len(), 24).expect(&rt, "equal");
-    is_true(!region.is_empty()).expect(&rt, "true");
+    let numbers = [
+        u64::from(region.get8(20)),
+        u64::from(region.get32(4)),
+        region.get64(16),
+        u64::from(region.len()),
+    ];
+    let wanted = [5, 0x0302_0105, 0x0707_0605_0707_0707, 24];
+    equal(region.slice(2, 8), [7, 5, 5, 1, 2, 3, 4, 2].as_slice()).expect(&rt, "bytes");
+    equal(numbers, wanted).expect(&rt, "numbers");
+    is_true(!region.is_empty()).expect(&rt, "not empty");
     Ok(())
 }

@@ -1,17 +1,13 @@
 use crate::tests::image::entry_of;
 use seg_block::Fit;
 use seg_check::check;
-use seg_manager::{Code, Fault, IndexKind, Region, Segment, TypeId, TypeTable, Window};
+use seg_image::Image;
+use seg_manager::{Fault, IndexKind, Region, Segment, TypeId, TypeTable, Window};
+use seg_seqfit::SeqFit;
 use seg_space::create;
 use seg_value::Place;
 use std::alloc::Global;
 use std::test::Fail;
-
-/// Numbers, the type that the tests use most.
-pub(crate) const NUMBER: TypeId = 0;
-
-/// Both kinds of index.
-pub(crate) const INDEXES: [IndexKind; 2] = [IndexKind::Flat, IndexKind::Tree];
 
 /// The bytes of the entries of these types, which are written as in an image's text, with commas between them.
 pub(crate) fn spelled(alloc: Global, types: &str) -> Result<Vec<u8>, Fail> {
@@ -40,13 +36,6 @@ pub(crate) fn window(alloc: Global, room: u32, len: u32) -> Result<Window<Global
     }
 }
 
-/// A segment of `len` bytes in a region of `room` bytes. Its heap is one free block.
-pub(crate) fn one_gap<F: Fit>(alloc: Global, room: u32, len: u32) -> Result<Window<Global>, Fail> {
-    let mut w = window(alloc, room, len)?;
-    F::init(&mut w);
-    Ok(w)
-}
-
 /// A region of `len` bytes, each of which is 0xa5.
 pub(crate) fn used_region(alloc: Global, len: u32) -> Result<Region<Global>, Fail> {
     let len = len.min(1 << 20);
@@ -55,17 +44,16 @@ pub(crate) fn used_region(alloc: Global, len: u32) -> Result<Region<Global>, Fai
     Ok(region)
 }
 
-/// An empty segment of these types.
-pub(crate) fn segment<F: Fit>(
+/// An empty segment of these types, with a flat index, in such a region.
+pub(crate) fn segment(
     alloc: Global,
     size: u32,
-    index: IndexKind,
     types: &str,
-) -> Result<Segment<F, Global>, Fail> {
-    segment_in::<F>(alloc, size, size, index, types)
+) -> Result<Segment<SeqFit, Global>, Fail> {
+    segment_in::<SeqFit>(alloc, size, size, IndexKind::Flat, types)
 }
 
-/// An empty segment of these types, in a region of `room` bytes.
+/// An empty segment of these types at the start of such a region of `room` bytes.
 pub(crate) fn segment_in<F: Fit>(
     alloc: Global,
     room: u32,
@@ -73,8 +61,7 @@ pub(crate) fn segment_in<F: Fit>(
     index: IndexKind,
     types: &str,
 ) -> Result<Segment<F, Global>, Fail> {
-    let region = used_region(alloc, room)?;
-    match create::<F, Global>(region, 0, size, index) {
+    match create::<F, Global>(used_region(alloc, room)?, 0, size, index) {
         Ok(mut segment) => {
             segment.add_types(&table(alloc, types)?)?;
             Ok(segment)
@@ -83,12 +70,12 @@ pub(crate) fn segment_in<F: Fit>(
     }
 }
 
-/// Makes a number with a name.
-pub(crate) fn construct_number<F: Fit>(
-    segment: &mut Segment<F, Global>,
-    name: &[u8],
-) -> Result<u32, Code> {
-    segment.construct(name, NUMBER, 1)
+/// The image in these bytes, if it is sound.
+pub(crate) fn opened(alloc: Global, bytes: Vec<u8>) -> Option<Image<Global>> {
+    match Image::open(alloc, bytes) {
+        Ok(image) => Some(image),
+        Err(_unopened) => None,
+    }
 }
 
 /// The first fault that the checker finds, if there is one.

@@ -1,50 +1,31 @@
 //! The blocks of a heap.
 
-use seg_block::{HEAP_START, UNIT, block_at, is_live, tag_word};
+use seg_block::{HEAP_START, UNIT, block_at, is_live};
 use seg_manager::Window;
-use seg_manager::header::FREE;
 use std::alloc::Global;
-use std::process::Abort;
-use support_data::is_true;
 
-/// Tests that these are the allocated blocks, with their positions and units.
-pub(crate) fn live_are(rt: &impl Abort, w: &Window<Global>, wanted: &[(u32, u32)]) {
-    is_true(are_live(w, wanted)).expect(rt, "true");
+/// The rest of a text after its first word, if that is this block: its position and its units, as `704/2`.
+fn after_block(text: &str, at: u32, units: u32) -> Option<&str> {
+    let (word, rest) = text.split_once(' ').unwrap_or((text, ""));
+    let (told_at, told_units) = word.split_once('/')?;
+    (told_at.parse() == Ok(at) && told_units.parse() == Ok(units)).then_some(rest)
 }
 
-fn are_live(w: &Window<Global>, wanted: &[(u32, u32)]) -> bool {
-    let mut found = 0usize;
+/// Whether the words of a text are the allocated blocks, in order.
+pub(crate) fn are_live(w: &Window<Global>, text: &str) -> bool {
+    let mut rest = text;
     let mut at = HEAP_START;
     for _ in 0..w.len() / UNIT {
         let Some(block) = block_at(w, at) else {
             break;
         };
         if is_live(w, at) {
-            match wanted.get(found) {
-                Some(&(wanted_at, units)) if wanted_at == at && units == block.units => {
-                    found = found.saturating_add(1);
-                }
-                _ => return false,
+            match after_block(rest, at, block.units) {
+                Some(after) => rest = after,
+                None => return false,
             }
         }
         at = block.at + UNIT * block.units;
     }
-    found == wanted.len()
-}
-
-/// Whether the heap is one free block, to which the free structure points, with a null link.
-fn is_gap(w: &Window<Global>) -> bool {
-    let Some(block) = block_at(w, HEAP_START) else {
-        return false;
-    };
-    let is_whole = block.units == w.len().saturating_sub(HEAP_START) / UNIT;
-    let is_free = !is_live(w, HEAP_START) && tag_word(w, HEAP_START) == 0;
-    let starts = w.target(FREE) == Some(HEAP_START + UNIT);
-    let ends = w.target(HEAP_START as usize + 12).is_none();
-    is_whole && is_free && starts && ends
-}
-
-/// Tests that the heap is one free block, to which the free structure points, with a null link.
-pub(crate) fn is_one_gap(rt: &impl Abort, w: &Window<Global>) {
-    is_true(is_gap(w)).expect(rt, "true");
+    rest.is_empty()
 }

@@ -10,7 +10,7 @@ ghost use Rattle.seg_spec.proofs.OrderLaws.{steps_up};
 
 use seg_manager::{Region, View, Window};
 use seg_rbtree::{Colour, NodeOrder, Path, Side, TREE_WORDS, Tree, UniqueKeys, child, node_colour};
-use std::alloc::{AllocError, Allocator, Global};
+use std::alloc::{Allocator, Global};
 use std::cmp::Ordering;
 use std::test::Fail;
 use support_data::{equal, is_true};
@@ -87,19 +87,19 @@ fn found(w: &Window<Global>, node: Option<u32>) -> Option<u32> {
     Some(number(w.view(), node?))
 }
 
-/// The numbers of the tree's nodes, each after the one before.
-fn numbers(alloc: Global, w: &Window<Global>) -> Result<Vec<u32>, AllocError> {
+/// The numbers of the tree's nodes, each after the one before, as the digits of one number. Each is below 10.
+fn numbers(w: &Window<Global>) -> u32 {
     let tree = Tree::new(0);
-    let mut numbers = Vec::new(alloc);
+    let mut digits = 0u32;
     let mut node = tree.first(w.view());
     for _ in 0..8 {
         let Some(n) = found(w, node) else {
             break;
         };
-        numbers.push(n)?;
+        digits = digits.wrapping_mul(10).wrapping_add(n);
         node = tree.next_after(w.view(), &ByNumber, n);
     }
-    Ok(numbers)
+    digits
 }
 
 /// A tree of the numbers 1 to 4 and 6. The number 3 is added at the end of a path, and its node is written after the search.
@@ -116,58 +116,56 @@ fn five_nodes(alloc: Global) -> Result<Window<Global>, Fail> {
     Ok(w)
 }
 
+/// Nodes by number, and beside a number.
+fn finds_nodes(w: &Window<Global>) -> bool {
+    let tree = Tree::new(0);
+    let nodes = [
+        tree.find(w.view(), &ByNumber, 3),
+        tree.find(w.view(), &ByNumber, 5),
+        tree.first_at_least(w.view(), &ByNumber, 5).node,
+        tree.next_after(w.view(), &ByNumber, 6),
+        tree.last(w.view()),
+        tree.last_below(w.view(), &ByNumber, 5),
+        tree.last_below(w.view(), &ByNumber, 1),
+    ];
+    // the node of a number n is at 32 * (n + 1)
+    nodes == [Some(128), None, Some(224), None, Some(224), Some(160), None]
+}
+
+/// A path to the first node that isn't below a number.
+fn leads_to_a_node(w: &Window<Global>) -> bool {
+    let mut path = Path::new(0);
+    let node = path.lead_to_first(w, Tree::new(0), &ByNumber, 5);
+    node == Some(224) && path.node(w) == node
+}
+
 #[test]
 fn finds_nodes_by_number(rt: HostRuntime) -> Result<(), Fail> {
     let w = five_nodes(rt.alloc())?;
-    let tree = Tree::new(0);
-    equal(tree.find(w.view(), &ByNumber, 3), Some(node_of(3))).expect(&rt, "equal");
-    is_true(tree.find(w.view(), &ByNumber, 5).is_none()).expect(&rt, "true");
-    equal(
-        numbers(rt.alloc(), &w)?.as_slice(),
-        [1, 2, 3, 4, 6].as_slice(),
-    )
-    .expect(&rt, "equal");
-    Ok(())
-}
-
-#[test]
-fn finds_nodes_beside_a_number(rt: HostRuntime) -> Result<(), Fail> {
-    let w = five_nodes(rt.alloc())?;
-    let tree = Tree::new(0);
-    equal(
-        tree.first_at_least(w.view(), &ByNumber, 5).node,
-        Some(node_of(6)),
-    )
-    .expect(&rt, "equal");
-    is_true(tree.next_after(w.view(), &ByNumber, 6).is_none()).expect(&rt, "true");
-    equal(tree.last(w.view()), Some(node_of(6))).expect(&rt, "equal");
-    equal(tree.last_below(w.view(), &ByNumber, 5), Some(node_of(4))).expect(&rt, "equal");
-    is_true(tree.last_below(w.view(), &ByNumber, 1).is_none()).expect(&rt, "true");
-    Ok(())
-}
-
-#[test]
-fn a_path_leads_to_a_node(rt: HostRuntime) -> Result<(), Fail> {
-    let w = five_nodes(rt.alloc())?;
-    let mut path = Path::new(0);
-    let node = path.lead_to_first(&w, Tree::new(0), &ByNumber, 5);
-    equal(node, Some(node_of(6))).expect(&rt, "equal");
-    equal(path.node(&w), node).expect(&rt, "equal");
+    is_true(numbers(&w) == 12346 && finds_nodes(&w) && leads_to_a_node(&w)).expect(&rt, "found");
     Ok(())
 }
 
 /// One node is removed directly, and one at the end of a path.
+fn remove_two(w: &mut Window<Global>) {
+    let tree = Tree::new(0);
+    tree.remove(w, &ByNumber, node_of(4));
+    tree.path_to_key(w, &ByNumber, 2).remove(w);
+}
+
+fn remove_rest(w: &mut Window<Global>) {
+    for n in [1, 3, 6] {
+        Tree::new(0).remove(w, &ByNumber, node_of(n));
+    }
+}
+
 #[test]
 fn removes_nodes(rt: HostRuntime) -> Result<(), Fail> {
     let mut w = five_nodes(rt.alloc())?;
-    let tree = Tree::new(0);
-    tree.remove(&mut w, &ByNumber, node_of(4));
-    tree.path_to_key(&w, &ByNumber, 2).remove(&mut w);
-    equal(numbers(rt.alloc(), &w)?.as_slice(), [1, 3, 6].as_slice()).expect(&rt, "equal");
-    for n in [1, 3, 6] {
-        tree.remove(&mut w, &ByNumber, node_of(n));
-    }
-    is_true(tree.is_empty(&w)).expect(&rt, "true");
+    remove_two(&mut w);
+    equal(numbers(&w), 136).expect(&rt, "numbers");
+    remove_rest(&mut w);
+    is_true(Tree::new(0).is_empty(&w)).expect(&rt, "empty");
     Ok(())
 }
 

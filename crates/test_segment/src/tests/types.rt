@@ -53,15 +53,12 @@ const NESTED: &str = "i64, str, struct t0 t1 t0, vec t2, struct t2 t3 t2 t0";
 #[test]
 fn lays_out_structs(rt: HostRuntime) -> Result<(), Fail> {
     let table = table(rt.alloc(), NESTED)?;
-    equal(table.size(2), 24).expect(&rt, "equal");
-    equal(table.size(4), 64).expect(&rt, "equal");
-    equal(table.field_count(4), 4).expect(&rt, "equal");
+    let sizes = [table.size(2), table.size(4), table.field_count(4) as u32];
+    equal(sizes, [24, 64, 4]).expect(&rt, "sizes");
     let field = table.field(4, 2).ok_or("no field")?;
-    equal(field.from, 32).expect(&rt, "equal");
-    equal(field.type_id, 2).expect(&rt, "equal");
-    is_true(table.has_pointers(4)).expect(&rt, "true");
-    is_true(!table.has_pointers(0)).expect(&rt, "true");
-    equal(table.entry(3), *b"\x03\x01\x02\0\0\0\0\0\0\0\0\0\0\0\0\0").expect(&rt, "equal");
+    is_true(field.from == 32 && field.type_id == 2).expect(&rt, "field");
+    is_true(table.has_pointers(4) && !table.has_pointers(0)).expect(&rt, "pointers");
+    equal(table.entry(3), *b"\x03\x01\x02\0\0\0\0\0\0\0\0\0\0\0\0\0").expect(&rt, "entry");
     Ok(())
 }
 
@@ -70,11 +67,11 @@ fn extends_tables(rt: HostRuntime) -> Result<(), Fail> {
     let nested = table(rt.alloc(), NESTED)?;
     let two = table(rt.alloc(), "i64, str")?;
     let other = table(rt.alloc(), "i64, i64")?;
-    equal(two.extends(&nested)?.len(), 5).expect(&rt, "equal");
-    is_true(two.agrees(&nested).is_ok()).expect(&rt, "true");
-    equal(nested.agrees(&other), Err(Fault::TypeMismatch(1))).expect(&rt, "equal");
-    equal(TypeTable::new().extends(&other)?.kind(1), other.kind(0)).expect(&rt, "equal");
-    is_true(TypeTable::new().is_empty()).expect(&rt, "true");
-    is_true(!other.copy().is_empty()).expect(&rt, "true");
+    equal(two.extends(&nested)?.len(), 5).expect(&rt, "extended");
+    is_true(two.agrees(&nested).is_ok()).expect(&rt, "agrees");
+    equal(nested.agrees(&other), Err(Fault::TypeMismatch(1))).expect(&rt, "differs");
+    let empty = TypeTable::new();
+    equal(empty.extends(&other)?.kind(1), other.kind(0)).expect(&rt, "kind");
+    is_true(empty.is_empty() && !other.copy().is_empty()).expect(&rt, "empty");
     Ok(())
 }

@@ -27,13 +27,17 @@ fn write_each(w: &mut Window<Global>) {
 fn reads_what_it_wrote(rt: HostRuntime) -> Result<(), Fail> {
     let mut w = segment(rt.alloc())?;
     write_each(&mut w);
-    equal(w.slice(0, 8), [1, 1, 8, 7, 6, 5, 2, 3].as_slice()).expect(&rt, "equal");
-    equal(w.get64(0), 0x0302_0506_0708_0101).expect(&rt, "equal");
-    equal(w.get32(2), 0x0506_0708).expect(&rt, "equal");
-    equal(w.get16(6), 0x0302).expect(&rt, "equal");
-    equal(w.get8(31), 9).expect(&rt, "equal");
-    equal(w.get32(8), 12).expect(&rt, "equal");
-    equal(w.target(8), Some(20)).expect(&rt, "equal");
+    let numbers = [
+        w.get64(0),
+        u64::from(w.get32(2)),
+        u64::from(w.get16(6)),
+        u64::from(w.get8(31)),
+        u64::from(w.get32(8)),
+    ];
+    let wanted = [0x0302_0506_0708_0101, 0x0506_0708, 0x0302, 9, 12];
+    equal(w.slice(0, 8), [1, 1, 8, 7, 6, 5, 2, 3].as_slice()).expect(&rt, "bytes");
+    equal(numbers, wanted).expect(&rt, "numbers");
+    equal(w.target(8), Some(20)).expect(&rt, "pointer");
     Ok(())
 }
 
@@ -44,12 +48,9 @@ fn moves_and_grows(rt: HostRuntime) -> Result<(), Fail> {
     w.put8(31, 9);
     w.relocate(0)?;
     w.resize(48)?;
-    equal(w.base(), 0).expect(&rt, "equal");
-    equal(w.len(), 48).expect(&rt, "equal");
-    equal(w.room(), 64).expect(&rt, "equal");
-    equal(w.get8(31), 9).expect(&rt, "equal");
-    is_true(w.holds(40, 8)).expect(&rt, "true");
-    is_true(!w.is_empty()).expect(&rt, "true");
-    equal(w.into_region().len(), 64).expect(&rt, "equal");
+    let numbers = [w.base(), w.len(), w.room(), u32::from(w.get8(31))];
+    equal(numbers, [0, 48, 64, 9]).expect(&rt, "numbers");
+    is_true(w.holds(40, 8) && !w.is_empty()).expect(&rt, "within");
+    equal(w.into_region().len(), 64).expect(&rt, "region");
     Ok(())
 }

@@ -1,5 +1,0 @@
-mod door;
-mod hosts;
-mod images;
-mod memory;
-mod readers;

@@ -1,0 +1,289 @@
+//! Calls on images, written as text, and what they return. After `$ new 4096` the calls on the lines below are made on a new image
+//! of that size, once for each allocator and index. After `$ new 4096 t4 t5` they are made once for each of these types too, which
+//! `t` then is. After `$ open counter` or `$ open sharing` they are made on one of these images. `;` begins a comment. A line is
+//! one of these:
+//!
+//!     P = construct pair t7       P is the place that the call returns
+//!     find pair t7 => P           the call returns this place, number, code or fault
+//!     destroy pair t0 => no       the call returns false
+//!     assign T: good day          the bytes, words or numbers that a call is given, or with which its results are compared
+//!
+//! Without a result, a call must succeed, and not return false or a number. The words before the colon are names, places (capital
+//! letters), types (`t3`) and numbers; a name that has a space is given after the colon. Codes and faults are written as in [`code_of`] and `image.rt`. Each call that only reads is
+//! made on the open image and on a checked image of the same bytes, if they are sound.
+
+use crate::tests::changing::change;
+use crate::tests::image::is_told;
+use crate::tests::reading::read;
+use crate::tests::support::opened;
+use seg_image::{
+    AllocatorKind, Code, Fault, Fields, Image, IndexKind, Place, Type, TypeId, type_table,
+};
+use std::alloc::Global;
+use std::test::Fail;
+use support_data::{Statement, counter, sharing, statements};
+
+/// Both allocators with both indexes.
+const KINDS: [(AllocatorKind, IndexKind); 4] = [
+    (AllocatorKind::Seq, IndexKind::Flat),
+    (AllocatorKind::Seq, IndexKind::Tree),
+    (AllocatorKind::Best, IndexKind::Flat),
+    (AllocatorKind::Best, IndexKind::Tree),
+];
+
+/// The types of a new image: a number, a text, containers of numbers, an own, a struct and a shared cell; then an own and a shared
+/// cell of pairs, which are a number and such a cell.
+fn types() -> Option<[Type; 12]> {
+    Some([
+        Type::I64,
+        Type::Str,
+        Type::Vec(0),
+        Type::List(0),
+        Type::FlatMap(0),
+        Type::Map(0),
+        Type::Own(0),
+        Type::Struct(Fields::new(&[0, 1])?),
+        Type::Shared(0),
+        Type::Own(11),
+        Type::Shared(11),
+        Type::Struct(Fields::new(&[0, 10])?),
+    ])
+}
+
+/// The place of a letter to which no place was given yet.
+const UNKNOWN: Place = Place { at: 0, type_id: 31 };
+
+/// The places of the letters from A to Z.
+type Places = [Place; 26];
+
+/// What a call returned, if it wasn't refused.
+#[derive(Debug, Clone, Copy, PartialEq, Eq)]
+pub(crate) enum Value {
+    Done,
+    Flag(bool),
+    Number(i64),
+    Place(Place),
+    Fault(Fault),
+}
+
+pub(crate) type Answer = Result<Value, Code>;
+
+/// A call, with its arguments by what they are. A line has at most one name, type and number, and two places.
+#[derive(Clone, Copy)]
+pub(crate) struct Call<'a> {
+    /// The call.
+    pub(crate) word: &'a str,
+    pub(crate) name: &'a [u8],
+    pub(crate) t: TypeId,
+    pub(crate) number: Option<i64>,
+    pub(crate) place: Place,
+    pub(crate) other: Place,
+    /// The text after the colon.
+    pub(crate) text: &'a str,
+    /// The letter to which the result is given.
+    target: Option<usize>,
+    /// The result as it is written.
+    told: &'a str,
+}
+
+impl<'a> Call<'a> {
+    /// The call of a line, where `t` is this type.
+    fn of(line: &'a str, places: &Places, t: TypeId) -> Call<'a> {
+        let (line, told) = line.split_once("=>").unwrap_or((line, ""));
+        let (line, text) = line.split_once(':').unwrap_or((line, ""));
+        let (letter, line) = line.split_once(" = ").unwrap_or(("", line));
+        let (word, arguments) = line.trim().split_once(' ').unwrap_or((line.trim(), ""));
+        let mut call = Call {
+            word,
+            name: b"",
+            t,
+            number: None,
+            place: UNKNOWN,
+            other: UNKNOWN,
+            text: text.trim(),
+            target: index_of(letter.trim()),
+            told: told.trim(),
+        };
+        for argument in arguments.split_whitespace() {
+            call.take(argument, places);
+        }
+        if call.name.is_empty() {
+            call.name = call.text.as_bytes();
+        }
+        call
+    }
+
+    fn take(&mut self, argument: &'a str, places: &Places) {
+        if let Some(place) = place_of(argument, places) {
+            self.other = self.place;
+            self.place = place;
+        } else if let Some(t) = type_of(argument) {
+            self.t = t;
+        } else if let Ok(number) = argument.parse() {
+            self.number = Some(number);
+        } else if argument != "t" {
+            self.name = argument.as_bytes();
+        }
+    }
+
+    /// The number as a key or a value.
+    pub(crate) fn long(&self) -> i64 {
+        self.number.unwrap_or(0)
+    }
+
+    /// The number as a size, an index or a byte.
+    pub(crate) fn size(&self) -> u32 {
+        u32::try_from(self.long()).unwrap_or(u32::MAX)
+    }
+
+    /// The number of values of a new object.
+    pub(crate) fn count(&self) -> u32 {
+        match self.number {
+            Some(_) => self.size(),
+            None => 1,
+        }
+    }
+}
+
+fn index_of(letter: &str) -> Option<usize> {
+    match letter.as_bytes() {
+        [letter] if letter.is_ascii_uppercase() => Some(usize::from(letter.wrapping_sub(b'A'))),
+        _ => None,
+    }
+}
+
+fn place_of(letter: &str, places: &Places) -> Option<Place> {
+    places.get(index_of(letter)?).copied()
+}
+
+fn type_of(word: &str) -> Option<TypeId> {
+    word.strip_prefix('t')?.parse().ok()
+}
+
+/// The code that a word describes.
+fn code_of(word: &str) -> Option<Code> {
+    Some(match word {
+        "exists" => Code::AlreadyExists,
+        "memory" => Code::BadAlloc,
+        "absent" => Code::Absent,
+        "type" => Code::OtherType,
+        "range" => Code::OutOfRange,
+        "null" => Code::Null,
+        _ => return None,
+    })
+}
+
+/// Whether a call returned what is written.
+fn is_returned(found: Answer, told: &str, places: &Places) -> bool {
+    match found {
+        Err(code) => code_of(told) == Some(code),
+        Ok(Value::Done) => told.is_empty(),
+        Ok(Value::Flag(holds)) => told == if holds { "" } else { "no" },
+        Ok(Value::Number(number)) => told.parse() == Ok(number),
+        Ok(Value::Place(place)) => told.is_empty() || place_of(told, places) == Some(place),
+        Ok(Value::Fault(fault)) => is_told(Some(fault), told),
+    }
+}
+
+/// Makes the calls of each statement.
+pub(crate) fn make_calls(alloc: Global, text: &str) -> Result<(), Fail> {
+    for statement in statements(alloc, text)? {
+        let (word, words) = statement.words.trim().split_once(' ').ok_or("no image")?;
+        match word {
+            "new" => on_new(alloc, words, statement)?,
+            _ => Host::open(alloc, words)?.follow(alloc, statement.lines, 0)?,
+        }
+    }
+    Ok(())
+}
+
+/// Makes calls on new images of a size, once for each type if there are types.
+fn on_new(alloc: Global, words: &str, statement: Statement) -> Result<(), Fail> {
+    let (size, types) = words.split_once(' ').unwrap_or((words, "t0"));
+    let size = size.parse().map_err(|_| "no size")?;
+    for word in types.split_whitespace() {
+        let t = type_of(word).ok_or("no type")?;
+        for (allocator, index) in KINDS {
+            Host::new(alloc, size, allocator, index)?.follow(alloc, statement.lines, t)?;
+        }
+    }
+    Ok(())
+}
+
+/// An image, and the places of letters.
+#[derive(Drop)]
+struct Host {
+    image: Image<Global>,
+    places: Places,
+}
+
+impl Host {
+    /// A new image with the types above.
+    fn new(
+        alloc: Global,
+        size: u32,
+        allocator: AllocatorKind,
+        index: IndexKind,
+    ) -> Result<Host, Fail> {
+        let mut image = Image::create(alloc, size, allocator, index)?;
+        image.add_types(&type_table(&types().ok_or("no types")?)?)?;
+        Ok(Host {
+            image,
+            places: [UNKNOWN; 26],
+        })
+    }
+
+    /// The image with a name, opened.
+    fn open(alloc: Global, name: &str) -> Result<Host, Fail> {
+        let bytes = match name {
+            "counter" => counter(alloc)?,
+            "sharing" => sharing(alloc)?,
+            _ => return Err(Fail::new("no such image")),
+        };
+        Ok(Host {
+            image: opened(alloc, bytes).ok_or("unsound")?,
+            places: [UNKNOWN; 26],
+        })
+    }
+
+    /// Makes the calls of these lines.
+    fn follow(&mut self, alloc: Global, lines: &str, t: TypeId) -> Result<(), Fail> {
+        for line in lines.lines() {
+            let (line, _) = line.split_once(';').unwrap_or((line, ""));
+            if !line.trim().is_empty() {
+                self.make(alloc, line, t)?;
+            }
+        }
+        Ok(())
+    }
+
+    /// Makes the call of a line.
+    fn make(&mut self, alloc: Global, line: &str, t: TypeId) -> Result<(), Fail> {
+        let call = Call::of(line, &self.places, t);
+        let Some(found) = answer(alloc, &mut self.image, &call) else {
+            return Err(Fail::new(format_args!("not understood: {line}")));
+        };
+        if !is_returned(found, call.told, &self.places) {
+            return Err(Fail::new(format_args!("{line}, not {found:?}")));
+        }
+        self.keep(found, call.target);
+        Ok(())
+    }
+
+    /// Gives a place to a letter.
+    fn keep(&mut self, found: Answer, target: Option<usize>) {
+        if let (Ok(Value::Place(place)), Some(index)) = (found, target) {
+            if let Some(slot) = self.places.get_mut(index) {
+                *slot = place;
+            }
+        }
+    }
+}
+
+/// Makes a call. Returns `None` if there is no such call.
+fn answer(alloc: Global, image: &mut Image<Global>, call: &Call) -> Option<Answer> {
+    match read(alloc, image, call) {
+        Some(found) => Some(found),
+        None => change(alloc, image, call),
+    }
+}

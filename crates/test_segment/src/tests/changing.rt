@@ -1,0 +1,180 @@
+//! The calls that may change an image, and those on its bytes.
+
+use crate::tests::calls::{Answer, Call, Value};
+use crate::tests::image::is_told;
+use crate::tests::support::opened;
+use crate::tests::tiles::are_live;
+use seg_image::{CheckedImage, Code, Image, ImageRead, Place, check};
+use seg_value::{set_own, take_own};
+use std::alloc::Global;
+use support_data::{counter_saved, sharing};
+
+fn done(found: Result<(), Code>) -> Answer {
+    found?;
+    Ok(Value::Done)
+}
+
+fn place(found: Result<Place, Code>) -> Answer {
+    Ok(Value::Place(found?))
+}
+
+/// Makes a call. Returns `None` if there is no such call.
+pub(crate) fn change(alloc: Global, image: &mut Image<Global>, call: &Call) -> Option<Answer> {
+    Some(match call.word {
+        "construct" => place(image.construct(call.name, call.t, call.count())),
+        "find_or_construct" => place(image.find_or_construct(call.name, call.t)),
+        "destroy" => Ok(Value::Flag(image.destroy(call.name, call.t))),
+        "construct_unique" => place(image.construct_unique(call.t)),
+        "find_or_construct_unique" => place(image.find_or_construct_unique(call.t)),
+        "destroy_unique" => Ok(Value::Flag(image.destroy_unique(call.t))),
+        "construct_anonymous" => place(image.construct_anonymous(call.t)),
+        "destroy_anonymous" => {
+            image.destroy_anonymous(call.place);
+            Ok(Value::Done)
+        }
+        _ => return change_values(alloc, image, call),
+    })
+}
+
+fn change_values(alloc: Global, image: &mut Image<Global>, call: &Call) -> Option<Answer> {
+    Some(match call.word {
+        "store" => done(image.store(call.place, call.long())),
+        "clear" => done(image.clear(call.place)),
+        "put_content" => place(image.put_content(call.place)),
+        "set_own" => give(image, call.other, call.place),
+        "take_own" => take(image, call.place),
+        "freeze" => done(image.freeze(call.other, call.place)),
+        "share" => done(image.share(call.other, call.place)),
+        "assign" => done(image.assign(call.place, call.text.as_bytes())),
+        "append" => done(image.append(call.place, call.text.as_bytes())),
+        "push_byte" => push_byte(image, call),
+        _ => return change_containers(alloc, image, call),
+    })
+}
+
+fn change_containers(alloc: Global, image: &mut Image<Global>, call: &Call) -> Option<Answer> {
+    Some(match call.word {
+        "push_back" => place(image.push_back(call.place)),
+        "push_front" => place(image.push_front(call.place)),
+        "push_numbers" => done(push_numbers(image, call)),
+        "pop_back" => done(image.pop_back(call.place)),
+        "pop_front" => done(image.pop_front(call.place)),
+        "shrink_to_fit" => done(image.shrink_to_fit(call.place)),
+        "put" => place(image.put(call.place, call.long())),
+        "remove" => Ok(Value::Flag(image.remove(call.place, call.long()))),
+        "next" => neighbour(seg_seq::next(image, call.place.at), call),
+        "previous" => neighbour(seg_seq::previous(image, call.place.at), call),
+        _ => return change_memory(alloc, image, call),
+    })
+}
+
+fn change_memory(alloc: Global, image: &mut Image<Global>, call: &Call) -> Option<Answer> {
+    Some(Ok(match call.word {
+        "size" => number(image.size()),
+        "free_memory" => number(image.free_memory()),
+        "largest_gap" => number(image.largest_gap()),
+        "shrink" => number(image.shrink()),
+        "grow" => grow(image, call),
+        "zero_free_memory" => {
+            image.zero_free_memory();
+            Value::Done
+        }
+        "all_memory_deallocated" => Value::Flag(image.all_memory_deallocated()),
+        _ => return on_bytes(alloc, image, call),
+    }))
+}
+
+/// Calls on the bytes of an image, and comparisons of its blocks and places.
+fn on_bytes(alloc: Global, image: &mut Image<Global>, call: &Call) -> Option<Answer> {
+    Some(Ok(match call.word {
+        "types" => Value::Number(image.types().len() as i64),
+        "fault" => Value::Flag(has_fault(alloc, image.bytes(), call.text)),
+        "reopen" => Value::Flag(reopen(alloc, image)?),
+        "saves" => Value::Flag(saves(alloc, image, call.text)?),
+        "blocks" => Value::Flag(are_live(image.window(), call.text)),
+        "distance" => number(call.place.at.wrapping_sub(call.other.at)),
+        _ => return None,
+    }))
+}
+
+fn number(found: u32) -> Value {
+    Value::Number(i64::from(found))
+}
+
+/// Whether this is the fault of an image, also if it is opened only for reading.
+fn has_fault(alloc: Global, image: &[u8], text: &str) -> bool {
+    let opened = CheckedImage::open(alloc, image).err();
+    is_told(check(alloc, image).err(), text) && is_told(opened, text)
+}
+
+/// Makes an own the owner of an object.
+fn give(image: &mut Image<Global>, own: Place, object: Place) -> Answer {
+    match image {
+        Image::Seq(segment) => set_own(segment.heap_mut(), own, object.at),
+        Image::Best(segment) => set_own(segment.heap_mut(), own, object.at),
+    }
+    Ok(Value::Done)
+}
+
+/// Takes the object out of an own. Returns its position.
+fn take(image: &mut Image<Global>, own: Place) -> Answer {
+    let object = match image {
+        Image::Seq(segment) => take_own(segment.heap_mut(), own),
+        Image::Best(segment) => take_own(segment.heap_mut(), own),
+    };
+    Ok(number(object.ok_or(Code::Null)?))
+}
+
+fn grow(image: &mut Image<Global>, call: &Call) -> Value {
+    match image.grow(call.size()) {
+        Ok(size) => number(size),
+        Err(fault) => Value::Fault(fault),
+    }
+}
+
+/// Adds a byte to a text. Returns its length.
+fn push_byte(image: &mut Image<Global>, call: &Call) -> Answer {
+    let byte = u8::try_from(call.size()).unwrap_or(0);
+    let len = match image {
+        Image::Seq(segment) => seg_seq::push_byte(segment.heap_mut(), call.place, byte)?,
+        Image::Best(segment) => seg_seq::push_byte(segment.heap_mut(), call.place, byte)?,
+    };
+    Ok(number(len))
+}
+
+/// Pushes the numbers of the call's text onto a vector.
+fn push_numbers(image: &mut Image<Global>, call: &Call) -> Result<(), Code> {
+    let vector = image.numbers(call.place)?;
+    for word in call.text.split_whitespace() {
+        image.push_number(vector, word.parse().unwrap_or(0))?;
+    }
+    Ok(())
+}
+
+/// The item beside an item of a list.
+fn neighbour(at: u32, call: &Call) -> Answer {
+    Ok(Value::Place(Place {
+        at,
+        type_id: call.place.type_id,
+    }))
+}
+
+/// Opens the bytes of an image as the image. Returns whether they are sound.
+fn reopen(alloc: Global, image: &mut Image<Global>) -> Option<bool> {
+    let bytes = Vec::from_slice(alloc, image.bytes()).ok()?;
+    *image = opened(alloc, bytes)?;
+    Some(true)
+}
+
+/// Whether an image is saved as the one with a name.
+fn saves(alloc: Global, image: &Image<Global>, name: &str) -> Option<bool> {
+    let wanted = match name {
+        "counter" => counter_saved(alloc, 41),
+        "sharing" => sharing(alloc),
+        _ => return None,
+    };
+    match (image.save(alloc), wanted) {
+        (Ok(saved), Ok(wanted)) => Some(saved.as_slice() == wanted.as_slice()),
+        _ => Some(false),
+    }
+}

@@ -1,0 +1,181 @@
+//! The calls that only read an image.
+
+use crate::tests::calls::{Answer, Call, Value};
+use seg_image::{CheckedImage, Code, Image, ImageRead, Named, Place};
+use std::alloc::Global;
+
+/// Makes a call on an open image, and on a checked image with the same bytes and its reader, if they are sound. Returns `None` if the
+/// call doesn't only read, and false if they differ.
+pub(crate) fn read(alloc: Global, image: &Image<Global>, call: &Call) -> Option<Answer> {
+    let found = read_objects(image, call)?;
+    match CheckedImage::open(alloc, image.bytes()) {
+        Ok(checked) if !reads_the_same(&checked, call, found) => Some(Ok(Value::Flag(false))),
+        _ => Some(found),
+    }
+}
+
+/// Whether a call returns this on a checked image and on its reader.
+fn reads_the_same(checked: &CheckedImage, call: &Call, found: Answer) -> bool {
+    read_objects(checked, call) == Some(found)
+        && read_objects(&checked.reader(), call) == Some(found)
+}
+
+fn place(found: Result<Place, Code>) -> Answer {
+    Ok(Value::Place(found?))
+}
+
+fn number(found: Result<i64, Code>) -> Answer {
+    Ok(Value::Number(found?))
+}
+
+fn size(found: Result<u32, Code>) -> Answer {
+    Ok(Value::Number(i64::from(found?)))
+}
+
+fn flag(found: Result<bool, Code>) -> Answer {
+    Ok(Value::Flag(found?))
+}
+
+fn read_objects<S: ImageRead>(image: &S, call: &Call) -> Option<Answer> {
+    Some(match call.word {
+        "find" => place(image.find(call.name, call.t)),
+        "find_item" => place(image.find_item(call.name, call.t, call.size())),
+        "find_unique" => place(image.find_unique(call.t)),
+        "count" => count(ImageRead::count(image, call.name, call.t)),
+        "num_unique" => Ok(Value::Number(image.num_unique() as i64)),
+        "names" => Ok(Value::Flag(are_named(image, call.text))),
+        "is_named" => Ok(Value::Flag(image.named_object(call.name).is_some())),
+        _ => return read_values(image, call),
+    })
+}
+
+fn count(found: Result<u16, Code>) -> Answer {
+    Ok(Value::Number(i64::from(found?)))
+}
+
+fn read_values<S: ImageRead>(image: &S, call: &Call) -> Option<Answer> {
+    Some(match call.word {
+        "load" => number(ImageRead::load(image, call.place)),
+        "field" => place(image.field(call.place, call.size())),
+        "content" => place(ImageRead::content(image, call.place)),
+        "frozen" => place(image.frozen(call.place)),
+        "text" => flag(is_text(image.text(call.place), call.text)),
+        "len" => size(ImageRead::len(image, call.place)),
+        "item" => place(image.item(call.place, call.size())),
+        "items" => flag(are_items(image, call)),
+        "number_bytes" => flag(are_bytes(image.number_bytes(call.place), call.text)),
+        _ => return read_maps(image, call),
+    })
+}
+
+fn read_maps<S: ImageRead>(image: &S, call: &Call) -> Option<Answer> {
+    Some(match call.word {
+        "get" => place(image.get(call.place, call.long())),
+        "first_key" => number(image.first_key(call.place)),
+        "last_key" => number(image.last_key(call.place)),
+        "next_key" => number(image.next_key(call.place, call.long())),
+        "previous_key" => number(image.previous_key(call.place, call.long())),
+        "keys" => flag(are_keys(image, call)),
+        "entries" => flag(are_entries(image, call)),
+        _ => return None,
+    })
+}
+
+fn is_text(found: Result<&[u8], Code>, text: &str) -> Result<bool, Code> {
+    Ok(found? == text.as_bytes())
+}
+
+/// Whether these are the bytes of the numbers in a text.
+fn are_bytes(found: Result<&[u8], Code>, text: &str) -> Result<bool, Code> {
+    let mut bytes = found?;
+    for word in text.split_whitespace() {
+        let number: i64 = word.parse().unwrap_or(0);
+        match bytes.strip_prefix(&number.to_le_bytes()) {
+            Some(rest) => bytes = rest,
+            None => return Ok(false),
+        }
+    }
+    Ok(bytes.is_empty())
+}
+
+/// The rest of a text after its first word, if that is this number.
+fn after_number(text: &str, number: i64) -> Option<&str> {
+    let (word, rest) = text.split_once(' ').unwrap_or((text, ""));
+    (word.parse() == Ok(number)).then_some(rest)
+}
+
+/// The same with two numbers.
+fn after_entry(text: &str, key: i64, number: i64) -> Option<&str> {
+    after_number(after_number(text, key)?, number)
+}
+
+/// Whether a vector or a list has the numbers of the call's text.
+fn are_items<S: ImageRead>(image: &S, call: &Call) -> Result<bool, Code> {
+    let mut rest = call.text;
+    for item in image.items(call.place)? {
+        match after_number(rest, ImageRead::load(image, item)?) {
+            Some(after) => rest = after,
+            None => return Ok(false),
+        }
+    }
+    Ok(rest.is_empty())
+}
+
+/// Whether a map has the keys of the call's text, in order.
+fn are_keys<S: ImageRead>(image: &S, call: &Call) -> Result<bool, Code> {
+    let mut rest = call.text;
+    for key in image.keys(call.place)? {
+        match after_number(rest, key) {
+            Some(after) => rest = after,
+            None => return Ok(false),
+        }
+    }
+    Ok(rest.is_empty())
+}
+
+/// Whether a map has the keys of the call's text, in order, each followed by its number.
+fn are_entries<S: ImageRead>(image: &S, call: &Call) -> Result<bool, Code> {
+    let mut rest = call.text;
+    for (key, value) in image.entries(call.place)? {
+        match after_entry(rest, key, ImageRead::load(image, value)?) {
+            Some(after) => rest = after,
+            None => return Ok(false),
+        }
+    }
+    Ok(rest.is_empty())
+}
+
+/// Whether an object is the one that a word describes: its name, its type, and the number of its values if there are several, as
+/// `b/0/3`.
+fn is_named(named: Named, word: &str) -> bool {
+    let Some((name, rest)) = word.split_once('/') else {
+        return false;
+    };
+    let (t, count) = rest.split_once('/').unwrap_or((rest, "1"));
+    named.name == name.as_bytes()
+        && t.parse() == Ok(named.type_id)
+        && count.parse() == Ok(named.count)
+}
+
+/// Whether exactly these names are in the index, in this order.
+fn are_named<S: ImageRead>(image: &S, text: &str) -> bool {
+    let count = text.split_whitespace().count();
+    follow_one_another(image, text)
+        && image.names().count() == count
+        && image.num_named() as usize == count
+}
+
+/// Whether each of these names is found, and comes after the one before.
+fn follow_one_another<S: ImageRead>(image: &S, text: &str) -> bool {
+    let mut next = image.first_name();
+    for word in text.split_whitespace() {
+        let Some(named) = next else {
+            return false;
+        };
+        if !is_named(named, word) || image.named_object(named.name) != next {
+            return false;
+        }
+        next = image.next_name(named.name);
+    }
+    next.is_none()
+}
