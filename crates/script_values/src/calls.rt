@@ -30,8 +30,10 @@ impl Emitter<'_> {
     pub fn begin_arguments(&mut self, function: Function, arguments: Range) {
         let tree = self.tree;
         let (fields, arguments) = (tree.fields(function.parameters), tree.arguments(arguments));
-        for (field, argument) in fields.iter().zip(arguments).rev() {
-            self.begin_argument(function, *field, *argument);
+        for at in (0..fields.len()).rev() {
+            if let (Some(field), Some(argument)) = (fields.get(at), arguments.get(at)) {
+                self.begin_argument(function, *field, *argument);
+            }
         }
     }
 
@@ -43,7 +45,7 @@ impl Emitter<'_> {
         let name = self.word(field.name);
         let changes = self.assigns(function.body, name);
         if self.plain_name(argument).is_some() && !changes {
-            return self.then(&[Task::Evaluate(argument, None)]);
+            return self.push_task(Task::Evaluate(argument, None));
         }
         self.then(&[Task::Evaluate(argument, None), Task::Fresh])
     }
@@ -53,7 +55,7 @@ impl Emitter<'_> {
             let span = self.span_of(argument);
             return self.type_error(span, ErrorKind::ARGUMENT_TYPE, wanted);
         }
-        self.then(&[Task::Place(argument, 0)])
+        self.push_task(Task::Place(argument, 0))
     }
 
     fn parameter_type(&mut self, field: Field) -> TypeAt {
@@ -69,7 +71,7 @@ impl Emitter<'_> {
     /// Until the tasks are done that are added next, walks may keep their parts open.
     pub fn leave_flat(&mut self) {
         let is_flat = self.is_flat;
-        self.then(&[Task::SetFlat(is_flat)]);
+        self.push_task(Task::SetFlat(is_flat));
         self.is_flat = false;
     }
 

@@ -12,6 +12,56 @@ use script_syntax::{
     StatementKind, StepKind, ValueKind,
 };
 
+/// A push or a pop of a container.
+#[derive(Clone, Copy)]
+pub struct Method {
+    pub is_push: bool,
+    /// Whether it is at the end of the container, and not at its front.
+    pub is_back: bool,
+}
+
+static METHODS: [(&str, Method); 4] = [
+    (
+        "push",
+        Method {
+            is_push: true,
+            is_back: true,
+        },
+    ),
+    (
+        "push_front",
+        Method {
+            is_push: true,
+            is_back: false,
+        },
+    ),
+    (
+        "pop",
+        Method {
+            is_push: false,
+            is_back: true,
+        },
+    ),
+    (
+        "pop_front",
+        Method {
+            is_push: false,
+            is_back: false,
+        },
+    ),
+];
+
+impl Method {
+    fn named(word: &[u8]) -> Option<Method> {
+        for (spelling, method) in &METHODS {
+            if spelling.as_bytes() == word {
+                return Some(*method);
+            }
+        }
+        None
+    }
+}
+
 impl Emitter<'_> {
     pub fn begin_set(&mut self, statement: Statement) {
         let StatementKind::Set { place, items, .. } = statement.kind else {
@@ -28,11 +78,11 @@ impl Emitter<'_> {
         if self.is_own(place) {
             return self.begin_put(statement, place, items);
         }
-        self.then(&[Task::DoSet(statement)]);
+        self.push_task(Task::DoSet(statement));
         if let Ok(value) = self.only_value(&statement, items) {
-            self.then(&[Task::Evaluate(value, None)]);
+            self.push_task(Task::Evaluate(value, None));
         }
-        self.then(&[Task::Place(place, 0)])
+        self.push_task(Task::Place(place, 0))
     }
 
     pub fn is_own(&self, at: ExpressionAt) -> bool {
@@ -133,7 +183,7 @@ impl Emitter<'_> {
         value: ExpressionAt,
     ) {
         if matches!(operator, BinaryOperator::Divide | BinaryOperator::Remainder) {
-            self.then(&[Task::MoveTo(register)]);
+            self.push_task(Task::MoveTo(register));
             return self.begin_division(operator_span, operator, place, value);
         }
         self.then(&[
@@ -172,7 +222,7 @@ impl Emitter<'_> {
         let code = self.code_register(&place, handler);
         let walk = self.walk(&place, true);
         self.store(operator, walk.register, value.register);
-        self.then(&[Task::Release(value.register)]);
+        self.push_task(Task::Release(value.register));
         self.close_handling(&walk, handler, code)
     }
 
@@ -448,19 +498,18 @@ impl Emitter<'_> {
         let Some((span, arguments)) = self.method_of(at) else {
             return self.error_at(at, ErrorKind::NO_METHOD);
         };
-        let word = self.word(span);
-        if !is_push(word) && !is_pop(word) {
+        let Some(method) = Method::named(self.word(span)) else {
             return self.error(span, ErrorKind::NO_METHOD);
-        }
+        };
         let tree = self.tree;
-        let value = match value_of(tree.arguments(arguments), is_push(word)) {
+        let value = match value_of(tree.arguments(arguments), method.is_push) {
             Ok(value) => value,
             Err(kind) => return self.error(span, kind),
         };
-        let task = method_task(statement, is_named, is_push(word), value.is_some());
+        let task = method_task(statement, is_named, method.is_push, value.is_some());
         self.then(&[Task::Place(at, 1), task]);
         if let Some(value) = value {
-            self.then(&[Task::Evaluate(value, None)]);
+            self.push_task(Task::Evaluate(value, None));
         }
     }
 
@@ -473,29 +522,40 @@ impl Emitter<'_> {
         }
     }
 
-    /// The type of a container's items, if it has the method at the end of an expression.
-    pub fn method_item(&mut self, at: ExpressionAt, place: &Place, has_value: bool) -> TypeAt {
-        let Some(step) = self.last_step(at) else {
-            self.skip();
+    /// The push or pop at the end of a place, and the span of its name.
+    pub fn method_at(&self, at: ExpressionAt) -> Option<(Span, Method)> {
+        let step = self.last_step(at)?;
+        let method = Method::named(self.word(step.span))?;
+        Some((step.span, method))
+    }
+
+    /// The type of a container's items, if it has the method whose name has this span.
+    pub fn method_item(
+        &mut self,
+        span: Span,
+        method: Method,
+        place: &Place,
+        has_value: bool,
+    ) -> TypeAt {
+        let Some(item) = self.item_for(method, place.value_type) else {
+            self.type_error(span, ErrorKind::WRONG_METHOD, place.value_type);
             return TypeAt::INT;
         };
-        let word = self.word(step.span);
-        let shape = self.program.types.shape(place.value_type);
-        let is_list = matches!(shape, Shape::Of(Container::List, _));
-        let is_at_end = word == b"push".as_slice() || word == b"pop".as_slice();
-        match shape.item() {
-            Some(item) if is_list || (is_at_end && shape.is_sequence()) => {
-                if has_value && item != TypeAt::INT {
-                    self.type_error(step.span, ErrorKind::ITEM_IS_NO, item);
-                    return TypeAt::INT;
-                }
-                item
-            }
-            _ => {
-                self.type_error(step.span, ErrorKind::WRONG_METHOD, place.value_type);
-                TypeAt::INT
-            }
+        if has_value && item != TypeAt::INT {
+            self.type_error(span, ErrorKind::ITEM_IS_NO, item);
+            return TypeAt::INT;
         }
+        item
+    }
+
+    /// The type of the items of a container that has a method.
+    fn item_for(&self, method: Method, container: TypeAt) -> Option<TypeAt> {
+        let shape = self.program.types.shape(container);
+        let is_list = matches!(shape, Shape::Of(Container::List, _));
+        if is_list || (method.is_back && shape.is_sequence()) {
+            return shape.item();
+        }
+        None
     }
 
     /// A method of the last place, whose item gets no name.
@@ -503,40 +563,39 @@ impl Emitter<'_> {
         let StatementKind::Call(at) = statement.kind else {
             return;
         };
+        let Some((span, method)) = self.method_at(at) else {
+            return self.skip();
+        };
         let mut place = self.pop_place();
         self.enter_content(&mut place);
-        let item = self.method_item(at, &place, has_value);
-        let word = match self.last_step(at) {
-            Some(step) => self.word(step.span),
-            None => b"".as_slice(),
-        };
+        let item = self.method_item(span, method, &place, has_value);
         self.check_changeable(&place);
-        if word != b"push".as_slice() {
+        if !(method.is_push && method.is_back) {
             self.remove(&place, Removed::Below, statement.span);
         }
         let value = self.hold_pushed(has_value);
-        let handler = self.method_handler(statement, word);
-        self.walk_method(word, &place, value, item, handler)
+        let handler = self.method_handler(statement, method);
+        self.walk_method(method, &place, value, item, handler)
     }
 
     /// Goes to a place, and does a method there.
     fn walk_method(
         &mut self,
-        word: &[u8],
+        method: Method,
         place: &Place,
         value: Option<Register>,
         item: TypeAt,
         handler: Handler,
     ) {
         let code = self.code.literal_held(0);
-        let walk = self.walk(place, is_push(word));
-        self.emit_method(word, &walk, place, value, item, code);
+        let walk = self.walk(place, method.is_push);
+        self.emit_method(method, &walk, place, value, item, code);
         self.close_coded(&walk, handler, code)
     }
 
     /// What is done if a method fails. A pop from nothing isn't told.
-    fn method_handler(&mut self, statement: Statement, word: &[u8]) -> Handler {
-        if is_push(word) {
+    fn method_handler(&mut self, statement: Statement, method: Method) -> Handler {
+        if method.is_push {
             return self.handler(statement);
         }
         self.own_handler(statement)
@@ -545,7 +604,7 @@ impl Emitter<'_> {
     /// Emits a push or a pop at the end of a walk. If it fails, a register is set to the code.
     fn emit_method(
         &mut self,
-        word: &[u8],
+        method: Method,
         walk: &Walk,
         place: &Place,
         value: Option<Register>,
@@ -553,10 +612,10 @@ impl Emitter<'_> {
         code: Register,
     ) {
         let failed = self.code.take_held();
-        if is_push(word) {
-            self.push_item(word, failed, walk, place, value, item);
+        if method.is_push {
+            self.push_item(method, failed, walk, place, value, item);
         } else {
-            self.pop_item(word, failed, walk);
+            self.pop_item(method, failed, walk);
         }
         self.code.close_noting(failed, code);
         self.code.usage.release(failed);
@@ -566,10 +625,11 @@ impl Emitter<'_> {
     }
 
     /// Opens the part of an item that is removed.
-    fn pop_item(&mut self, word: &[u8], register: Register, walk: &Walk) {
-        let operation = match word {
-            b"pop" => Operation::PopBack,
-            _ => Operation::PopFront,
+    fn pop_item(&mut self, method: Method, register: Register, walk: &Walk) {
+        let operation = if method.is_back {
+            Operation::PopBack
+        } else {
+            Operation::PopFront
         };
         let registers = [register.0, walk.register.0, 0];
         self.code
@@ -579,7 +639,7 @@ impl Emitter<'_> {
     /// Opens the part of an item that is pushed, and sets it.
     fn push_item(
         &mut self,
-        word: &[u8],
+        method: Method,
         register: Register,
         walk: &Walk,
         place: &Place,
@@ -599,7 +659,7 @@ impl Emitter<'_> {
                 Known::Number,
             );
         }
-        self.open_push(word == b"push".as_slice(), register, walk, item);
+        self.open_push(method.is_back, register, walk, item);
         if let Some(value) = value {
             self.code.act(Operation::Store, register, value.0);
         }
@@ -625,14 +685,6 @@ fn value_of(arguments: &[ExpressionAt], is_push: bool) -> Result<Option<Expressi
         _ if is_push => Err(ErrorKind::ONE_VALUE),
         _ => Err(ErrorKind::NO_VALUE),
     }
-}
-
-fn is_push(word: &[u8]) -> bool {
-    matches!(word, b"push" | b"push_front")
-}
-
-fn is_pop(word: &[u8]) -> bool {
-    matches!(word, b"pop" | b"pop_front")
 }
 
 /// The error of setting a value with this shape, which isn't a number.

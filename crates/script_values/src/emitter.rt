@@ -114,9 +114,14 @@ impl<'t> Emitter<'t> {
 
     /// Does these tasks next, the first one first.
     pub fn then(&mut self, tasks: &[Task]) {
-        for task in tasks.iter().rev() {
-            append(&mut self.tasks, *task, &mut self.code.trouble);
+        for at in (0..tasks.len()).rev() {
+            self.push_task(tasks[at]);
         }
+    }
+
+    /// Does this task next.
+    pub fn push_task(&mut self, task: Task) {
+        append(&mut self.tasks, task, &mut self.code.trouble)
     }
 
     /// Works out a place next, and then does this task.
@@ -265,9 +270,10 @@ impl<'t> Emitter<'t> {
         {
             return false;
         }
-        for (one, two) in left.iter().zip(right) {
-            if !self.is_same_step(one, two) {
-                return false;
+        for (at, one) in left.iter().enumerate() {
+            match right.get(at) {
+                Some(two) if self.is_same_step(one, two) => {}
+                _ => return false,
             }
         }
         true

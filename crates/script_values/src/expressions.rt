@@ -61,7 +61,7 @@ impl Emitter<'_> {
             ExpressionKind::Place(_) => self.evaluate_place(at, into),
             ExpressionKind::OrElse(place, default) => self.evaluate_default(place, default),
             ExpressionKind::Call(arguments) => {
-                self.then(&[Task::BeginCall(at, whole.span, arguments)])
+                self.push_task(Task::BeginCall(at, whole.span, arguments))
             }
         }
     }

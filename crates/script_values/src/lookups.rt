@@ -1,5 +1,6 @@
 //! `let`, `if let` and `use`.
 
+use crate::changes::Method;
 use crate::emitter::Emitter;
 use crate::task::{Handler, Task, Walk};
 use crate::walks::Removed;
@@ -227,9 +228,9 @@ impl Emitter<'_> {
                 value_type,
             },
         );
-        self.then(&[Task::Release(register)]);
+        self.push_task(Task::Release(register));
         self.then_else(handler, register);
-        self.then(&[body_task(&statement, names)])
+        self.push_task(body_task(&statement, names))
     }
 
     /// Ends the innermost part next. If it fails, the handler runs, with the code in a register.
@@ -258,7 +259,7 @@ impl Emitter<'_> {
             register,
             Known::Owner(content),
         );
-        self.then(&[Task::CloseWalk(walk, handler, code)]);
+        self.push_task(Task::CloseWalk(walk, handler, code));
         self.own(statement, name, register, content, handler)
     }
 
@@ -342,7 +343,7 @@ impl Emitter<'_> {
         let walk = self.walk(place, false);
         self.read_number(register, walk.register, place);
         self.close_noting(&walk, code);
-        self.then(&[Task::Release(register)]);
+        self.push_task(Task::Release(register));
         let bind = Task::BindSet(name, register, digits);
         self.branch_on(code, handler, bind, body_task(&statement, names))
     }
@@ -536,7 +537,7 @@ impl Emitter<'_> {
         self.close_noting(&walk, code);
         self.bind_place(name, place);
         self.use_last_name();
-        self.then(&[Task::EndScope(names)]);
+        self.push_task(Task::EndScope(names));
         self.after_flat(statement, number, code)
     }
 
@@ -573,20 +574,22 @@ impl Emitter<'_> {
         let Some((name, value)) = self.named_value(&statement) else {
             return self.skip();
         };
+        let Some((span, method)) = self.called(value) else {
+            return self.skip();
+        };
         let mut place = self.pop_place();
-        let is_back = self.method_word(value) == b"push".as_slice();
         self.enter_content(&mut place);
-        let item = self.check_method(value, &place, has_value);
+        let item = self.method_item(span, method, &place, has_value);
         if place.value_type == TypeAt::TEXT {
             return self.error(value.span, ErrorKind::PUSHED_BYTE_NAME);
         }
         self.check_changeable(&place);
-        if !is_back {
+        if !method.is_back {
             self.remove(&place, Removed::Below, statement.span);
         }
         let push = Push {
             name,
-            is_back,
+            is_back: method.is_back,
             item,
             pushed: self.hold_pushed(has_value),
         };
@@ -700,16 +703,18 @@ impl Emitter<'_> {
         let Some((name, value)) = self.named_value(&statement) else {
             return self.skip();
         };
+        let Some((span, method)) = self.called(value) else {
+            return self.skip();
+        };
         let mut place = self.pop_place();
-        let is_back = self.method_word(value) == b"pop".as_slice();
         self.enter_content(&mut place);
-        let item = self.check_method(value, &place, false);
+        let item = self.method_item(span, method, &place, false);
         if item != TypeAt::INT {
             return self.type_error(value.span, ErrorKind::ITEM_GOES, item);
         }
         self.check_changeable(&place);
         let handler = self.lookup_handler(statement);
-        self.bind_popped(statement, name, is_back, &place, handler)
+        self.bind_popped(statement, name, method.is_back, &place, handler)
     }
 
     /// Removes an item, binds its number, and does the body.
@@ -728,7 +733,7 @@ impl Emitter<'_> {
         self.take_item(is_back, register, code, &walk, place.value_type);
         self.close_noting(&walk, code);
         let names = self.names.len();
-        self.then(&[Task::Release(register)]);
+        self.push_task(Task::Release(register));
         let bind = Task::BindSet(name, register, MOST_DIGITS);
         self.branch_on(code, handler, bind, body_task(&statement, names))
     }
@@ -782,32 +787,11 @@ impl Emitter<'_> {
         }
     }
 
-    fn check_method(&mut self, value: Value, place: &Place, has_value: bool) -> TypeAt {
+    /// The push or pop that a value is, and the span of its name.
+    fn called(&self, value: Value) -> Option<(Span, Method)> {
         match value.kind {
-            ValueKind::Expression(at) => self.method_item(at, place, has_value),
-            _ => {
-                self.skip();
-                TypeAt::INT
-            }
-        }
-    }
-}
-
-impl<'t> Emitter<'t> {
-    /// The name of the method in a value.
-    fn method_word(&mut self, value: Value) -> &'t [u8] {
-        match value.kind {
-            ValueKind::Expression(at) => match self.last_step(at) {
-                Some(step) => self.word(step.span),
-                None => {
-                    self.skip();
-                    b""
-                }
-            },
-            _ => {
-                self.skip();
-                b""
-            }
+            ValueKind::Expression(at) => self.method_at(at),
+            _ => None,
         }
     }
 }

@@ -66,7 +66,7 @@ impl Emitter<'_> {
             is_flat: self.is_flat,
             turn,
         };
-        self.then(&[Task::BeginLoop(found)])
+        self.push_task(Task::BeginLoop(found))
     }
 
     fn begin_numbers(&mut self, statement: Statement, first: ExpressionAt, end: ExpressionAt) {
@@ -193,7 +193,7 @@ impl Emitter<'_> {
     fn open_items(&mut self, statement: Statement, place: Place, turns: i32) {
         let mut place = place;
         let names = self.names.len();
-        self.then(&[Task::EndScope(names)]);
+        self.push_task(Task::EndScope(names));
         self.keep_keys(&mut place, body_of(&statement));
         let key = self.code.literal_held(0);
         let go = self.code.literal_held(0);
@@ -230,7 +230,7 @@ impl Emitter<'_> {
         };
         let turns = self.needed_turns(statement.span, max);
         let go = self.code.take_held();
-        self.then(&[Task::Release(go)]);
+        self.push_task(Task::Release(go));
         self.then_loop(statement, go, turns, Turn::While(condition));
         self.then(&[Task::Evaluate(condition, Some(go)), Task::MoveTo(go)])
     }

@@ -86,24 +86,22 @@ fn without_end(word: &[u8], count: usize) -> &[u8] {
 
 /// How many bytes two words have in common at their start.
 fn shared_start(one: &[u8], two: &[u8]) -> usize {
-    let mut count = 0usize;
-    for (left, right) in one.iter().zip(two) {
-        if *left != *right {
-            break;
+    let most = one.len().min(two.len());
+    for at in 0..most {
+        if one[at] != two[at] {
+            return at;
         }
-        count = count.saturating_add(1);
     }
-    count
+    most
 }
 
 /// How many bytes two words have in common at their end.
 fn shared_end(one: &[u8], two: &[u8]) -> usize {
-    let mut count = 0usize;
-    for (left, right) in one.iter().rev().zip(two.iter().rev()) {
-        if *left != *right {
-            break;
+    let most = one.len().min(two.len());
+    for count in 0..most {
+        if one[one.len() - 1 - count] != two[two.len() - 1 - count] {
+            return count;
         }
-        count = count.saturating_add(1);
     }
-    count
+    most
 }

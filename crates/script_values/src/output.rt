@@ -26,7 +26,7 @@ impl Emitter<'_> {
             return self.error(item.value.span, ErrorKind::NUMBER_WANTED);
         };
         if self.wait_known(&item, at, &output) {
-            return self.then(&[Task::Items(rest, output)]);
+            return self.push_task(Task::Items(rest, output));
         }
         self.write_waiting(&output);
         self.write_item(&item, at, rest, output)
@@ -136,7 +136,7 @@ impl Emitter<'_> {
 
     fn write_item(&mut self, item: &Item, at: ExpressionAt, rest: Range, output: Output) {
         let follows = Task::Items(rest, output);
-        self.then(&[follows]);
+        self.push_task(follows);
         if self.is_text(at) {
             let write = match output {
                 Output::Printed { .. } => Task::WriteText(at),

@@ -197,7 +197,7 @@ impl Emitter<'_> {
                 items,
                 ends_line,
                 ..
-            } => self.then(&[Task::Items(items, Output::Printed { ends_line })]),
+            } => self.push_task(Task::Items(items, Output::Printed { ends_line })),
             StatementKind::Set { .. } => self.begin_set(statement),
             StatementKind::Freeze { .. } => self.begin_freeze(statement),
             StatementKind::Share { .. } => self.begin_share(statement),

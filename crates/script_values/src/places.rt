@@ -69,15 +69,16 @@ impl Emitter<'_> {
 
     /// Works out the keys of a place, and then the place.
     pub fn begin_place(&mut self, at: ExpressionAt, dropped: usize) {
-        self.then(&[Task::Resolve(at, dropped)]);
+        self.push_task(Task::Resolve(at, dropped));
         let Some(steps) = self.steps_of(at, dropped) else {
             return;
         };
         let tree = self.tree;
-        for step in tree.steps(steps).iter().rev() {
-            if let Some(key) = self.key_of(step) {
+        let steps = tree.steps(steps);
+        for at in (0..steps.len()).rev() {
+            if let Some(key) = self.key_of(&steps[at]) {
                 if self.known_number(key).is_none() {
-                    self.then(&[Task::Evaluate(key, None)]);
+                    self.push_task(Task::Evaluate(key, None));
                 }
             }
         }

@@ -59,7 +59,7 @@ impl Emitter<'_> {
     fn begin_delete_key(&mut self, statement: Statement, at: ExpressionAt, key: ExpressionAt) {
         self.then(&[Task::Place(at, 1), Task::DoDeleteKey(statement)]);
         if self.known_number(key).is_none() {
-            return self.then(&[Task::Evaluate(key, None)]);
+            return self.push_task(Task::Evaluate(key, None));
         }
     }
 

@@ -384,7 +384,7 @@ impl Emitter<'_> {
     /// Ends the parts of a walk, each with the handler in its else part.
     fn handle_each(&mut self, walk: &Walk, handler: Handler) {
         if let Some(register) = walk.held {
-            self.then(&[Task::Release(register)]);
+            self.push_task(Task::Release(register));
         }
         for at in 0..walk.count {
             if at < DEPTH {
