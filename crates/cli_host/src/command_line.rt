@@ -5,12 +5,12 @@ use std::alloc::{AllocError, Global};
 /// The version of Lezgauri, then the versions of files that it reads. `Makefile` takes the first word from here.
 const VERSION: &str = "0.1.0 (image versions 1 and 2, client versions 1 and 2)";
 
-/// The arguments that all commands have.
-const SHARED: &[Argument] = &[Argument {
+/// The argument that all commands have.
+static EXPLAIN: Argument = Argument {
     id: "explain",
     takes: Takes::Flag,
     help: "After a failure, also print what is wrong, where, and what would be right",
-}];
+};
 
 const IMAGE: Argument = Argument {
     id: "FILE",
@@ -384,16 +384,15 @@ Each command takes --explain, which explains its failure.";
 
 /// The parser of `segtool`'s command line.
 pub fn command_line<'a>(alloc: Global) -> Result<Command<'a>, AllocError> {
-    let mut program = Command::new(alloc, "segtool")
+    let program = Command::new(alloc, "segtool")
         .version(VERSION)
         .about("Checks images of managed segments, and runs verified clients on them")
         .after_help(STATUSES)
         .subcommand_required(true)
         .arg_required_else_help(true);
-    for table in [running(), content(), heap_and_clients()] {
-        program = with_commands(alloc, program, table)?;
-    }
-    Ok(program)
+    let program = with_commands(alloc, program, running())?;
+    let program = with_commands(alloc, program, content())?;
+    with_commands(alloc, program, heap_and_clients())
 }
 
 /// Adds the commands of a table.
@@ -422,9 +421,5 @@ fn heap_and_clients() -> &'static [CommandRow] {
 }
 
 fn command<'a>(alloc: Global, line: &'static CommandRow) -> Result<Command<'a>, AllocError> {
-    let mut command = parser(alloc, line)?;
-    for argument in SHARED {
-        command = command.arg(parser_of(alloc, argument))?;
-    }
-    Ok(command)
+    parser(alloc, line)?.arg(parser_of(alloc, &EXPLAIN))
 }

@@ -5,7 +5,7 @@ use crate::problem::FileProblem;
 use std::alloc::Global;
 
 /// Why a call on files failed.
-#[derive(Debug, Clone, Copy, PartialEq, Eq)]
+#[derive(Clone, Copy)]
 pub enum FileFault {
     /// The program is out of memory.
     Memory,

@@ -87,27 +87,45 @@ impl<'a, R: rt::Files<File = File> + AllocGlobal> HostFiles<'a, R> {
     fn replace(&self, name: &str, old: Option<&Metadata>, bytes: &[u8]) -> io::Result<()> {
         let folder = fs::open(self.rt, folder_of(name))?;
         let Beside { name: beside, file } = self.make_beside(name, old)?;
-        let filled = fill(file, old, bytes);
-        let placed = filled.and_then(|()| fs::rename(self.rt, beside.as_str(), name));
-        if placed.is_err() {
-            // report the first error, not this one's
-            let _ = fs::remove_file(self.rt, beside.as_str());
+        match self.place(file, beside.as_str(), name, old, bytes) {
+            Ok(()) => sync_folder(&folder),
+            Err(error) => {
+                // report the first error, not this one's
+                let _ = fs::remove_file(self.rt, beside.as_str());
+                Err(error)
+            }
         }
-        placed.and_then(|()| sync_folder(&folder))
+    }
+
+    /// Writes the bytes to a new file beside a name, and renames it to the name.
+    fn place(
+        &self,
+        file: File,
+        beside: &str,
+        name: &str,
+        old: Option<&Metadata>,
+        bytes: &[u8],
+    ) -> io::Result<()> {
+        fill(file, old, bytes)?;
+        fs::rename(self.rt, beside, name)
     }
 
     /// Makes the first of the files `NAME.1.new`, `NAME.2.new` and so on that doesn't exist. Whatever exists with such a name,
     /// even a dangling link, is never opened, so nobody gains by guessing the name.
     fn make_beside(&self, name: &str, old: Option<&Metadata>) -> io::Result<Beside> {
         for number in 1..=NAMES {
-            let beside = format!(in self.rt.alloc(); "{name}.{number}.new")?;
-            match self.make_new(beside.as_str(), old) {
-                Ok(file) => return Ok(Beside { name: beside, file }),
+            match self.make_numbered(name, number, old) {
                 Err(error) if error.kind() == ErrorKind::AlreadyExists => {}
-                Err(error) => return Err(error),
+                made => return made,
             }
         }
         Err(io::Error::from(ErrorKind::AlreadyExists))
+    }
+
+    fn make_numbered(&self, name: &str, number: u32, old: Option<&Metadata>) -> io::Result<Beside> {
+        let beside = format!(in self.rt.alloc(); "{name}.{number}.new")?;
+        let file = self.make_new(beside.as_str(), old)?;
+        Ok(Beside { name: beside, file })
     }
 
     /// Makes a file, or fails if something has its name. A file that will replace another is at first accessible only to its

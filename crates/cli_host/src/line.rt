@@ -52,20 +52,21 @@ pub fn parser<'a>(alloc: Global, line: &'static CommandRow) -> Result<Command<'a
 /// The parser of an argument.
 pub fn parser_of<'a>(alloc: Global, argument: &'static Argument) -> Arg<'a> {
     let plain = Arg::new(alloc, argument.id).help(argument.help);
-    match argument.takes {
-        Takes::Word => plain.required(true),
-        Takes::Value => plain.required(true).allow_negative_numbers(true),
+    let named = match argument.takes {
         Takes::Optional => plain,
-        Takes::Words => plain.required(true).num_args(ValueRange::new(1..)),
-        Takes::OneOf(words) => plain.required(true).value_parser(ValueParser::Names(words)),
-        Takes::Bytes => plain.required(true).value_parser(value_parser!(u32)),
-        Takes::Flag => plain.long(argument.id).action(ArgAction::SetTrue),
-        Takes::File => plain.long(argument.id).value_name("FILE"),
-        Takes::Text(name) => plain.long(argument.id).value_name(name),
-        Takes::Number => plain
-            .long(argument.id)
-            .value_name("N")
-            .value_parser(value_parser!(u32)),
+        Takes::Flag | Takes::File | Takes::Text(_) | Takes::Number => plain.long(argument.id),
+        _ => plain.required(true),
+    };
+    match argument.takes {
+        Takes::Word | Takes::Optional => named,
+        Takes::Value => named.allow_negative_numbers(true),
+        Takes::Words => named.num_args(ValueRange::new(1..)),
+        Takes::OneOf(words) => named.value_parser(ValueParser::Names(words)),
+        Takes::Bytes => named.value_parser(value_parser!(u32)),
+        Takes::Flag => named.action(ArgAction::SetTrue),
+        Takes::File => named.value_name("FILE"),
+        Takes::Text(name) => named.value_name(name),
+        Takes::Number => named.value_name("N").value_parser(value_parser!(u32)),
     }
 }
 

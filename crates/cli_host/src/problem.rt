@@ -1,5 +1,5 @@
 /// The format of a file that a command writes.
-#[derive(Debug, Clone, Copy, PartialEq, Eq)]
+#[derive(Clone, Copy)]
 pub enum Format {
     Image,
     Client,
@@ -19,7 +19,7 @@ impl Format {
 }
 
 /// Why a file can't be read or written.
-#[derive(Debug, Clone, Copy, PartialEq, Eq)]
+#[derive(Clone, Copy)]
 pub enum FileProblem {
     /// The file to read doesn't exist, or is a link to one that doesn't.
     Missing,
