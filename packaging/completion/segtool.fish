@@ -76,7 +76,7 @@ complete -c segtool -n '__segtool_at verify 2' -F
 
 complete -c segtool -n 'test "$(__segtool_command)" = run' -l base -x -d 'The position of the segment in the host\'s region, a multiple of 16 [default: 0]'
 complete -c segtool -n 'test "$(__segtool_command)" = run' -l room -x -d 'The size of the host\'s region in bytes [default: as much as the segment needs]'
-complete -c segtool -n 'test "$(__segtool_command)" = run' -l input -r -F -d 'The file that the clients read, byte by byte [default: empty]'
+complete -c segtool -n 'test "$(__segtool_command)" = run' -l input -r -F -d 'The file that the clients read, byte by byte; - is the standard input [default: empty]'
 complete -c segtool -n 'test "$(__segtool_command)" = run' -l force -d 'Overwrite a file even if it isn\'t an image'
 complete -c segtool -n 'test "$(__segtool_command)" = run' -l explain -d 'After a failure, also print what is wrong, where, and what would be right'
 complete -c segtool -n 'test "$(__segtool_command)" = run' -s h -l help -d 'Print help'
@@ -84,7 +84,7 @@ complete -c segtool -n '__segtool_at run 1' -F
 complete -c segtool -n '__segtool_at run 2' -F
 complete -c segtool -n '__segtool_at run 3 +' -F
 
-complete -c segtool -n 'test "$(__segtool_command)" = trace' -l input -r -F -d 'The file that the clients read, byte by byte [default: empty]'
+complete -c segtool -n 'test "$(__segtool_command)" = trace' -l input -r -F -d 'The file that the clients read, byte by byte; - is the standard input [default: empty]'
 complete -c segtool -n 'test "$(__segtool_command)" = trace' -l step -x -d 'Print only the steps of each client from A to B, both included; also A.., ..B or A'
 complete -c segtool -n 'test "$(__segtool_command)" = trace' -l only -x -d 'Print only the steps that find, read or change the object with this name, or a register with this variable of a program'
 complete -c segtool -n 'test "$(__segtool_command)" = trace' -l last -x -d 'Print only the last N lines'

@@ -45,7 +45,7 @@ pub const CLIENTS: Argument = Argument {
 pub const INPUT: Argument = Argument {
     id: "input",
     takes: Takes::File,
-    help: "The file that the clients read, byte by byte [default: empty]",
+    help: "The file that the clients read, byte by byte; - is the standard input [default: empty]",
 };
 
 /// Allows overwriting a file that isn't an image.
@@ -88,11 +88,19 @@ pub fn run_of<'a>(alloc: Global, arguments: &ArgMatches<'a>) -> Result<Run<'a>, 
         image: word(arguments, "IMAGE"),
         out: word(arguments, "OUT"),
         clients: clients_of(alloc, arguments)?,
-        input: arguments.get_str("input"),
+        input: input_of(arguments),
         base: number(arguments, "base"),
         room: arguments.get_one("room"),
         forced: arguments.get_flag("force"),
     })
+}
+
+/// The file of the argument [`INPUT`].
+pub(crate) fn input_of<'a>(arguments: &ArgMatches<'a>) -> Option<&'a str> {
+    match arguments.get_str("input") {
+        Some("-") => Some("/dev/stdin"),
+        named => named,
+    }
 }
 
 /// The files of the argument [`CLIENTS`].

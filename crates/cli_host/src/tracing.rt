@@ -1,7 +1,7 @@
 //! Reading the arguments of `trace`.
 
 use crate::request::{Steps, Trace};
-use crate::run::clients_of;
+use crate::run::{clients_of, input_of};
 use crate::{Misread, word};
 use clap::ArgMatches;
 use std::alloc::Global;
@@ -14,7 +14,7 @@ pub(crate) fn trace_of<'a>(
     Ok(Trace {
         image: word(arguments, "FILE"),
         clients: clients_of(alloc, arguments)?,
-        input: arguments.get_str("input"),
+        input: input_of(arguments),
         steps: steps_of(alloc, arguments.get_str("step"))?,
         only: arguments.get_str("only"),
         last: arguments.get_one("last"),
