@@ -14,41 +14,18 @@ use script_syntax::{
 
 /// A push or a pop of a container.
 #[derive(Clone, Copy)]
-pub struct Method {
-    pub is_push: bool,
-    /// Whether it is at the end of the container, and not at its front.
-    pub is_back: bool,
+pub enum Method {
+    Push,
+    PushFront,
+    Pop,
+    PopFront,
 }
 
 static METHODS: [(&str, Method); 4] = [
-    (
-        "push",
-        Method {
-            is_push: true,
-            is_back: true,
-        },
-    ),
-    (
-        "push_front",
-        Method {
-            is_push: true,
-            is_back: false,
-        },
-    ),
-    (
-        "pop",
-        Method {
-            is_push: false,
-            is_back: true,
-        },
-    ),
-    (
-        "pop_front",
-        Method {
-            is_push: false,
-            is_back: false,
-        },
-    ),
+    ("push", Method::Push),
+    ("push_front", Method::PushFront),
+    ("pop", Method::Pop),
+    ("pop_front", Method::PopFront),
 ];
 
 impl Method {
@@ -59,6 +36,15 @@ impl Method {
             }
         }
         None
+    }
+
+    fn is_push(self) -> bool {
+        matches!(self, Method::Push | Method::PushFront)
+    }
+
+    /// Whether it is at the end of the container, and not at its front.
+    pub fn is_back(self) -> bool {
+        matches!(self, Method::Push | Method::Pop)
     }
 }
 
@@ -502,11 +488,11 @@ impl Emitter<'_> {
             return self.error(span, ErrorKind::NO_METHOD);
         };
         let tree = self.tree;
-        let value = match value_of(tree.arguments(arguments), method.is_push) {
+        let value = match value_of(tree.arguments(arguments), method.is_push()) {
             Ok(value) => value,
             Err(kind) => return self.error(span, kind),
         };
-        let task = method_task(statement, is_named, method.is_push, value.is_some());
+        let task = method_task(statement, is_named, method.is_push(), value.is_some());
         self.then(&[Task::Place(at, 1), task]);
         if let Some(value) = value {
             self.push_task(Task::Evaluate(value, None));
@@ -552,7 +538,7 @@ impl Emitter<'_> {
     fn item_for(&self, method: Method, container: TypeAt) -> Option<TypeAt> {
         let shape = self.program.types.shape(container);
         let is_list = matches!(shape, Shape::Of(Container::List, _));
-        if is_list || (method.is_back && shape.is_sequence()) {
+        if is_list || (method.is_back() && shape.is_sequence()) {
             return shape.item();
         }
         None
@@ -570,7 +556,7 @@ impl Emitter<'_> {
         self.enter_content(&mut place);
         let item = self.method_item(span, method, &place, has_value);
         self.check_changeable(&place);
-        if !(method.is_push && method.is_back) {
+        if !matches!(method, Method::Push) {
             self.remove(&place, Removed::Below, statement.span);
         }
         let value = self.hold_pushed(has_value);
@@ -588,14 +574,14 @@ impl Emitter<'_> {
         handler: Handler,
     ) {
         let code = self.code.literal_held(0);
-        let walk = self.walk(place, method.is_push);
+        let walk = self.walk(place, method.is_push());
         self.emit_method(method, &walk, place, value, item, code);
         self.close_coded(&walk, handler, code)
     }
 
     /// What is done if a method fails. A pop from nothing isn't told.
     fn method_handler(&mut self, statement: Statement, method: Method) -> Handler {
-        if method.is_push {
+        if method.is_push() {
             return self.handler(statement);
         }
         self.own_handler(statement)
@@ -612,7 +598,7 @@ impl Emitter<'_> {
         code: Register,
     ) {
         let failed = self.code.take_held();
-        if method.is_push {
+        if method.is_push() {
             self.push_item(method, failed, walk, place, value, item);
         } else {
             self.pop_item(method, failed, walk);
@@ -626,7 +612,7 @@ impl Emitter<'_> {
 
     /// Opens the part of an item that is removed.
     fn pop_item(&mut self, method: Method, register: Register, walk: &Walk) {
-        let operation = if method.is_back {
+        let operation = if method.is_back() {
             Operation::PopBack
         } else {
             Operation::PopFront
@@ -659,7 +645,7 @@ impl Emitter<'_> {
                 Known::Number,
             );
         }
-        self.open_push(method.is_back, register, walk, item);
+        self.open_push(method.is_back(), register, walk, item);
         if let Some(value) = value {
             self.code.act(Operation::Store, register, value.0);
         }

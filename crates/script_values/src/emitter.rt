@@ -77,6 +77,11 @@ impl<'t> Emitter<'t> {
         self.tree.word(span)
     }
 
+    /// Whether a name is this word.
+    pub fn is_word(&self, span: Span, word: &str) -> bool {
+        self.word(span) == word.as_bytes()
+    }
+
     /// The span of an expression.
     pub fn span_of(&self, at: ExpressionAt) -> Span {
         match self.tree.expression(at) {

@@ -584,12 +584,12 @@ impl Emitter<'_> {
             return self.error(value.span, ErrorKind::PUSHED_BYTE_NAME);
         }
         self.check_changeable(&place);
-        if !method.is_back {
+        if !method.is_back() {
             self.remove(&place, Removed::Below, statement.span);
         }
         let push = Push {
             name,
-            is_back: method.is_back,
+            is_back: method.is_back(),
             item,
             pushed: self.hold_pushed(has_value),
         };
@@ -714,7 +714,7 @@ impl Emitter<'_> {
         }
         self.check_changeable(&place);
         let handler = self.lookup_handler(statement);
-        self.bind_popped(statement, name, method.is_back, &place, handler)
+        self.bind_popped(statement, name, method.is_back(), &place, handler)
     }
 
     /// Removes an item, binds its number, and does the body.

@@ -40,7 +40,7 @@ impl Emitter<'_> {
     pub fn is_method(&self, at: ExpressionAt) -> bool {
         match self.last_step(at) {
             Some(step) => match step.kind {
-                StepKind::Method(_) => self.word(step.span) != b"after".as_slice(),
+                StepKind::Method(_) => !self.is_word(step.span, "after"),
                 _ => false,
             },
             None => false,
@@ -88,7 +88,7 @@ impl Emitter<'_> {
     fn key_of(&self, step: &Step) -> Option<ExpressionAt> {
         match step.kind {
             StepKind::Index(key) => Some(key),
-            StepKind::Method(arguments) if self.word(step.span) == b"after".as_slice() => {
+            StepKind::Method(arguments) if self.is_word(step.span, "after") => {
                 self.tree.arguments(arguments).first().copied()
             }
             _ => None,
@@ -370,7 +370,7 @@ impl Emitter<'_> {
         is_last: bool,
     ) {
         let shape = self.program.types.shape(resolving.place.value_type);
-        if !shape.is_map() || self.word(span) != b"after".as_slice() {
+        if !shape.is_map() || !self.is_word(span, "after") {
             return self.error(span, ErrorKind::METHOD_AS_VALUE);
         }
         if !is_last {
@@ -386,14 +386,13 @@ impl Emitter<'_> {
 
     fn resolve_field(&mut self, resolving: &mut Resolving, span: Span, is_last: bool) {
         let shape = self.program.types.shape(resolving.place.value_type);
-        let word = self.word(span);
-        if shape.is_map() && word == b"first".as_slice() {
+        if shape.is_map() && self.is_word(span, "first") {
             if !is_last {
                 return self.error(span, ErrorKind::KEY_HAS_NO_PARTS);
             }
             return self.add_way(&mut resolving.place, WayKind::FirstKey, TypeAt::INT);
         }
-        if shape.item().is_some() && word == b"len".as_slice() {
+        if shape.item().is_some() && self.is_word(span, "len") {
             if !is_last {
                 return self.error(span, ErrorKind::LENGTH_HAS_NO_PARTS);
             }
@@ -468,7 +467,7 @@ impl Emitter<'_> {
     /// Whether the first of these steps has the word of a length.
     fn begins_with_length(&self, steps: &[Step]) -> bool {
         match steps.first() {
-            Some(step) => self.word(step.span) == b"len".as_slice(),
+            Some(step) => self.is_word(step.span, "len"),
             None => false,
         }
     }
@@ -483,7 +482,7 @@ impl Emitter<'_> {
         };
         let steps = self.tree.steps(steps);
         match steps.last() {
-            Some(step) if self.word(step.span) == b"len".as_slice() => {}
+            Some(step) if self.is_word(step.span, "len") => {}
             _ => return false,
         }
         let before = steps
