@@ -145,8 +145,8 @@ impl Numbering {
         if members.len() != fields.len() {
             return false;
         }
-        for (member, number) in members.iter().zip(fields) {
-            if !self.is_same(member.value_type.0, usize::from(*number), image) {
+        for at in 0..members.len() {
+            if !self.is_same(members[at].value_type.0, usize::from(fields[at]), image) {
                 return false;
             }
         }
@@ -170,8 +170,8 @@ impl Numbering {
         if one.len() != two.len() {
             return false;
         }
-        for (left, right) in one.iter().zip(two) {
-            if !self.is_alike(types, left.value_type.0, right.value_type.0) {
+        for at in 0..one.len() {
+            if !self.is_alike(types, one[at].value_type.0, two[at].value_type.0) {
                 return false;
             }
         }
@@ -324,8 +324,8 @@ impl Numbering {
 
     fn struct_type(&self, members: &[Member]) -> Option<Type> {
         let mut parts = [0u8; 8];
-        for (part, member) in parts.iter_mut().zip(members) {
-            *part = self.number(member.value_type)?;
+        for (at, member) in members.iter().enumerate() {
+            *parts.get_mut(at)? = self.number(member.value_type)?;
         }
         Some(Type::Struct(Fields::new(parts.get(..members.len())?)?))
     }

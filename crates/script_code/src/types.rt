@@ -166,8 +166,9 @@ impl Types {
             BaseType::Text => TypeAt::TEXT,
             BaseType::Struct(name) => self.struct_type(tree, name, trouble)?,
         };
-        for container in tree.containers(written.containers).iter().rev() {
-            at = self.intern(Shape::Of(*container, at), trouble);
+        let containers = tree.containers(written.containers);
+        for level in (0..containers.len()).rev() {
+            at = self.intern(Shape::Of(containers[level], at), trouble);
         }
         Ok(at)
     }
