@@ -3,7 +3,7 @@
 use crate::text::begins_as_text;
 
 /// The format of a file, if it can be told from how it begins.
-#[derive(Clone, Copy, PartialEq, Eq)]
+#[derive(Clone, Copy)]
 pub(crate) enum Format {
     Image,
     Client,

@@ -246,7 +246,10 @@ fn add_lines(
     let count = text.lines().count().saturating_add(1);
     let mut steps = Vec::from_elem(alloc, 0u64, count)?;
     let mut instructions = Vec::from_elem(alloc, 0usize, count)?;
-    for (line, cost) in program.lines.iter().zip(costs.steps.as_slice()) {
+    for (at, cost) in costs.steps.as_slice().iter().enumerate() {
+        let Some(line) = program.lines.get(at) else {
+            break;
+        };
         if let (Some(sum), Some(number)) = (steps.get_mut(*line), instructions.get_mut(*line)) {
             *sum = sum.saturating_add(*cost);
             *number = number.saturating_add(1);

@@ -94,7 +94,7 @@ pub(crate) fn begins_as_text(bytes: &[u8]) -> bool {
         match lines.next() {
             Some([b';', ..]) => {}
             Some(line) if first_word(line).is_empty() => {}
-            Some(line) => return Statement::of(line) != Statement::Unknown,
+            Some(line) => return !matches!(Statement::of(line), Statement::Unknown),
             None => break,
         }
     }
@@ -102,7 +102,7 @@ pub(crate) fn begins_as_text(bytes: &[u8]) -> bool {
 }
 
 /// The kind of a line, by its first word.
-#[derive(Clone, Copy, PartialEq, Eq)]
+#[derive(Clone, Copy)]
 enum Statement {
     Type,
     Constant(ConstantKind),
@@ -115,14 +115,19 @@ impl Statement {
         if line.starts_with(b"text ") {
             return Statement::Constant(ConstantKind::Text);
         }
-        match first_word(line) {
-            b"type" => Statement::Type,
-            b"name" => Statement::Constant(ConstantKind::Name),
-            b"family" => Statement::Constant(ConstantKind::Family),
-            word => match Operation::from_word(word) {
-                Some(operation) => Statement::Instruction(operation),
-                None => Statement::Unknown,
-            },
+        let word = first_word(line);
+        if word == b"type".as_slice() {
+            return Statement::Type;
+        }
+        if word == b"name".as_slice() {
+            return Statement::Constant(ConstantKind::Name);
+        }
+        if word == b"family".as_slice() {
+            return Statement::Constant(ConstantKind::Family);
+        }
+        match Operation::from_word(word) {
+            Some(operation) => Statement::Instruction(operation),
+            None => Statement::Unknown,
         }
     }
 }
