@@ -12,7 +12,7 @@ pub(crate) struct Case<'a> {
     pub(crate) text: &'a str,
 }
 
-/// What the words of a case stand for when it is played once more.
+/// What is in the place of words of a case when it is played.
 #[derive(Clone, Copy)]
 pub(crate) struct Turn {
     pub(crate) allocator: &'static str,

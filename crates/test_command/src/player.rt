@@ -208,7 +208,7 @@ impl<'a> Player<'a> {
         Ok(())
     }
 
-    /// Fails unless what a statement says of a file is true.
+    /// Fails unless a statement about a file is true.
     fn holds(&self, words: &str, lines: &str) -> Result<(), Fail> {
         match self.is_true(words, lines)? {
             true => Ok(()),
@@ -309,7 +309,7 @@ fn after_line(bytes: &[u8]) -> &[u8] {
     }
 }
 
-/// The lines once for each number below `times`, which stands in the place of `{}`.
+/// The lines once for each number below `times`, which is in the place of `{}`.
 fn repeated(alloc: Global, lines: &str, times: u32) -> Result<String, Fail> {
     let (before, after) = lines.split_once("{}").ok_or("no place for the number")?;
     let mut text = String::new(alloc);

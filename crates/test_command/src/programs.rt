@@ -1,6 +1,6 @@
 //! Statements about programs. After the words come the lines of a program, without the last line end, a line `---`, and what is found.
 //!
-//!     $ errors      the errors: the line and column of each, its message, and after `/` its hint or `-`; no lines if there is none
+//!     $ errors      the errors: the line and column of each, its message, and after `/` its hint or `-`; no lines if there are no errors
 //!     $ warnings    the warnings, in the same way
 //!     $ listed      the words that are listed with the errors of a program, each with its line
 //!     $ shown       the errors, or the warnings of a program without errors, as they are shown for a file `p.lez`
