@@ -25,8 +25,8 @@ use std::alloc::{AllocError, Allocator};
 /// order: the header, the types, the blocks, the free blocks, the names, the unique objects, the values, the counts of
 /// frozen objects, blocks without an owner.
 ///
-/// It allocates all its memory before it reads the heap: nine bytes for each unit of the heap, and four more if a type
-/// shares objects.
+/// It allocates all its memory before it reads the heap: eight bytes and three bits for each unit of the heap, and four
+/// bytes more if a type shares objects.
 pub fn check<A: Allocator>(alloc: A, view: View) -> Result<TypeTable, Fault>
     ensures image { IfOk result (IsImageOf view.entry.bytes.now) }
     ensures fault { IfErr result (IsFaultOf view.entry.bytes.now) }

@@ -11,7 +11,7 @@ ghost use Rattle.seg_check.specs.Cells.{AreCountsRight};
 
 use crate::bytes::{frozen_number, has_payload};
 use crate::fault::ContentFault;
-use crate::marks::{Mark, Turn, Waiting};
+use crate::marks::{Mark, Marks, Turn, Waiting};
 use seg_block::{BlockAt, HEAP_START, PayloadAt, Tag, UNIT, block_of};
 use seg_cells::CellAt;
 use seg_ptr::View;
@@ -21,7 +21,7 @@ use std::marker::Model;
 /// The blocks of a heap: which of them have an owner, and which have values that are still to be checked.
 #[derive(Drop)]
 pub(crate) struct Claims<A: Allocator> {
-    marks: Vec<Mark, A>,
+    marks: Marks<A>,
     /// How many blocks are free.
     free: usize,
     /// How many allocated blocks have no owner so far.
@@ -38,6 +38,8 @@ pub(crate) struct Claims<A: Allocator> {
     has_named: bool,
     /// While the values of a frozen object are checked, its number: objects that they point to have lower ones.
     below: Option<u32>,
+    /// What `look_ahead` read last. Nothing depends on it, but the compiler keeps the reads, since it is stored.
+    ahead: u32,
 }
 
 impl<A: Allocator> Model for Claims<A> {
@@ -46,11 +48,11 @@ impl<A: Allocator> Model for Claims<A> {
 
     ghost Value = { Known };
 
-    ghost view = { λ c. known_of c.marks.items c.unclaimed c.free c.queue.items c.taken
+    ghost view = { λ c. known_of c.marks c.unclaimed c.free c.queue.items c.taken
         c.counts.items c.below };
 
-    ghost invariant = { λ c. (length c.marks.items ≤ 2 ^ 26) × (c.taken ≤ length c.queue.items)
-        × (c.has_named ≡ false → HasNoneNamed c.marks.items) };
+    ghost invariant = { λ c. (length c.marks ≤ 2 ^ 26) × (c.taken ≤ length c.queue.items)
+        × (c.has_named ≡ false → HasNoneNamed c.marks) };
 }
 
 impl<A: Allocator> Claims<A> {
@@ -69,7 +71,7 @@ impl<A: Allocator> Claims<A> {
             0
         };
         Ok(Claims {
-            marks: Vec::from_elem(alloc, Mark::Inside, units)?,
+            marks: Marks::new(alloc, units)?,
             free: 0,
             unclaimed: 0,
             // a block has at least two units, and is claimed at most once
@@ -78,6 +80,7 @@ impl<A: Allocator> Claims<A> {
             counts: Vec::from_elem(alloc, None, slots)?,
             has_named: false,
             below: None,
+            ahead: 0,
         })
     }
 
@@ -104,7 +107,7 @@ impl<A: Allocator> Claims<A> {
         ensures others { KeepsOtherBlocks self.old self.new block }
     {
         if let Some(unit) = self.unit_at(block) {
-            self.marks[unit] = new;
+            self.marks.set(unit, new);
             self.has_named |= new.is_named();
         }
     }
@@ -113,7 +116,7 @@ impl<A: Allocator> Claims<A> {
         ensures { IsMarked self.now block result }
     {
         match self.unit_at(block) {
-            Some(unit) => self.marks[unit],
+            Some(unit) => self.marks.get(unit),
             None => Mark::Inside,
         }
     }
@@ -177,15 +180,28 @@ impl<A: Allocator> Claims<A> {
         if !has_payload(bytes, block, tag.word(), size) {
             return Err(bad);
         }
-        match self.marks[unit] {
+        match self.marks.get(unit) {
             Mark::Live => {
-                self.marks[unit] = Mark::Claimed;
+                self.marks.claim(unit);
                 self.unclaimed = self.unclaimed.wrapping_sub(1);
                 Ok(start)
             }
             Mark::Claimed | Mark::Named => Err(ContentFault::DoubleOwner(block)),
             Mark::Inside | Mark::Free => Err(bad),
         }
+    }
+
+    /// Reads the first bytes of the nodes two links below the node that a pointer points to. A walk through a tree reaches
+    /// them soon, and they are then in the processor's cache: the reads wait for memory together, those of the walk one
+    /// after the other.
+    #[inline(always)]
+    pub(crate) fn look_ahead(&mut self, bytes: View, pointer: u32)
+        ensures { self.new ≡ self.old }
+    {
+        self.ahead = match bytes.target(pointer as usize) {
+            Some(node) => below(bytes, node) ^ below(bytes, node.wrapping_add(4)),
+            None => 0,
+        };
     }
 
     /// Puts a claimed block in the queue. What owns it now owns its values.
@@ -323,8 +339,10 @@ impl<A: Allocator> Claims<A> {
         if !self.has_named {
             return Ok(());
         }
+        let marks = &self.marks;
         let mut block = HEAP_START;
-        for mark in &self.marks {
+        for unit in 0..marks.len() {
+            let mark = marks.get(unit);
             if mark.is_named() && !self.is_right(bytes, block, next) {
                 return Err(ContentFault::BadValue(block.saturating_add(UNIT)));
             }
@@ -352,8 +370,10 @@ impl<A: Allocator> Claims<A> {
         if self.unclaimed == 0 {
             return None;
         }
+        let marks = &self.marks;
         let mut block = HEAP_START;
-        for mark in &self.marks {
+        for unit in 0..marks.len() {
+            let mark = marks.get(unit);
             if mark.is_unclaimed() {
                 return Some(block);
             }
@@ -371,4 +391,20 @@ fn one_less(left: Option<u32>) -> Option<u32>
         Some(left) => left.checked_sub(1),
         None => None,
     }
+}
+
+/// What was read of the two children of the node that a pointer points to.
+#[inline(always)]
+fn below(bytes: View, pointer: u32) -> u32 {
+    match bytes.target(pointer as usize) {
+        Some(node) => first_bytes(bytes, node) ^ first_bytes(bytes, node.wrapping_add(4)),
+        None => 0,
+    }
+}
+
+/// What was read of the node that a pointer points to: its tag and its key, since it may lie in two lines of the cache.
+#[inline(always)]
+fn first_bytes(bytes: View, pointer: u32) -> u32 {
+    let node = bytes.get32(pointer as usize).wrapping_add(pointer);
+    bytes.get32(node.wrapping_sub(8) as usize) ^ bytes.get32(node.wrapping_add(16) as usize)
 }

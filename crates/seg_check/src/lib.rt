@@ -1,6 +1,7 @@
 //! The checker: whether an image is sound, and if not, its first fault. Also how a sound image is opened and saved.
 #![tactic(auto)]
 
+mod bits;
 mod bytes;
 mod checker;
 mod claims;

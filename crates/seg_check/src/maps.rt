@@ -68,6 +68,7 @@ impl TypedImage<'_> {
             match visit {
                 Visit::Enter(pointer) => {
                     owner.claim(claims, pointer, 1)?;
+                    claims.look_ahead(self.bytes, pointer);
                 }
                 Visit::Pass(node) => keys.add(self.key(content.entry.value_at(node, 0))),
             }

@@ -12,6 +12,7 @@ use Rattle.seg_check.specs.declared.fault.ContentFault.TheVariants.{BadValue}
 use Rattle.seg_check.specs.declared.walk.Visit.TheVariants.{Enter, Pass}
 use Rattle.seg_check.specs.Claiming.{HaveLiveHeaders}
 use Rattle.seg_check.specs.Keys.{HasKeys}
+use Rattle.seg_check.specs.Marks.{Known}
 use Rattle.seg_check.specs.Positions.{LacksValueAt}
 use Rattle.seg_check.specs.Walks.{Completes, IsSteady, Proceeds}
 use Rattle.seg_check.specs.Resolving.{CanResolve, Steps}
@@ -20,7 +21,7 @@ use Rattle.seg_check.proofs.Contents.BufferLaws.{blocks_none, blocks_some, block
 use Rattle.seg_check.proofs.Blocks.LackingBlockLaws.{ready_allocated}
 use Rattle.seg_check.proofs.WalkStateLaws.{Followed, follow_start, steps_on, moves_on}
 use Rattle.seg_check.proofs.PlacedWalkLaws.{placed_link}
-use Rattle.seg_check.proofs.Contents.MapLaws.{traced_start, tree_nothing, tree_counted, tree_counted_lack, traced_ready, traced_lacks, node_lacks, traced_refused, traced_can, traced_steps, traced_enter, traced_pass, traced_live, owned_node, owned_can, node_key, ok_was, err_was}
+use Rattle.seg_check.proofs.Contents.MapLaws.{Traced, traced_start, tree_nothing, tree_counted, tree_counted_lack, traced_ready, traced_lacks, node_lacks, traced_refused, traced_can, traced_steps, traced_enter, traced_pass, traced_live, owned_node, owned_can, node_key, ok_was, err_was}
 use Rattle.seg_check.proofs.image.TypedImage.check_map.Goals as goal
 
 -- the cell's pointer isn't null
@@ -85,10 +86,9 @@ returns-in_err-visit-clause-steps g c = λ T U by ready lies.
     (traced_lacks bytes table old ready at T U by.form_is c.loop-visit.claims walk.stage walk.turns c.loop-visit.keys t lies
     (not_null bytes at (blocks_names at (count_at bytes at) c.in-Some.count (target bytes at) (sym c.counted_blocks.ensures ∙ c.in_ok-count.was ∙ ap Ok c.in-Some.is))) never))
 
-pub loop-visit-preserved-in_ok-claim-in-Enter :
-    goal.loop-visit-preserved-in_ok-claim-in-Enter
-loop-visit-preserved-in_ok-claim-in-Enter g c = record {
-  taken = c.in_ok-claim-in-Enter.ensures.taken ∙ c.loop-visit.invariant.taken;
+pub loop-visit-preserved-in-Enter : goal.loop-visit-preserved-in-Enter
+loop-visit-preserved-in-Enter g c = record {
+  taken = ap (λ (k : Known). k.taken) c.look_ahead.ensures ∙ c.in_ok-claim-in-Enter.ensures.taken ∙ c.loop-visit.invariant.taken;
   root = c.next.ensures.root ∙ c.loop-visit.invariant.root;
   same = c.next.ensures.bytes ∙ c.loop-visit.invariant.same;
   traced = (λ T U by ready.
@@ -107,12 +107,13 @@ loop-visit-preserved-in_ok-claim-in-Enter g c = record {
       let is : visit ≡ Some (Enter c.in-Enter.pointer) = c.in-Some-2.is ∙ ap Some c.in-Enter.is in
       let stepped = steps_on bytes walk.bytes.bytes.now new.bytes.bytes.now walk.stage new.stage walk.turns new.turns c.next.result (Enter c.in-Enter.pointer) (was ∙ ap Ok is) c.next.ensures.bytes
       c.loop-visit.invariant.same t.followed.steady c.next.ensures.fewer c.next.ensures.steady c.next.ensures.goes_on in
-      traced_enter bytes table old ready at T U by.form_is mid walk.stage walk.turns c.loop-visit.keys t new.stage new.turns stepped.0 stepped.1 c.claim.new.claims c.in-Enter.pointer
+      subst (λ (k : Known). Traced bytes table old ready at T U by.form_is k new.stage new.turns c.loop-visit.keys) (sym c.look_ahead.ensures)
+      (traced_enter bytes table old ready at T U by.form_is mid walk.stage walk.turns c.loop-visit.keys t new.stage new.turns stepped.0 stepped.1 c.claim.new.claims c.in-Enter.pointer
       c.in_ok-claim-in-Enter.field-0 stepped.2
       (moves_on bytes walk.bytes.bytes.now walk.stage new.stage c.next.result (Enter c.in-Enter.pointer) (was ∙ ap Ok is) c.loop-visit.invariant.same c.next.ensures.moves)
       (owned_node bytes table T U c.args.content.now by owner.bytes.bytes.now (word_of owner.tag) owner.entry_size owner.has_turns o.bytes (ap word_of o.tag) o.entry_size o.has_turns
       mid c.claim.new.claims c.in-Enter.pointer c.in_ok-claim-in-Enter.field-0
-      (c.in_ok-claim-in-Enter.ensures.claimed (subst (λ bs. HaveLiveHeaders bs mid.unclaimed) (sym o.bytes) (traced_live bytes table old ready at T U by.form_is mid walk.stage walk.turns c.loop-visit.keys t)))));
+      (c.in_ok-claim-in-Enter.ensures.claimed (subst (λ bs. HaveLiveHeaders bs mid.unclaimed) (sym o.bytes) (traced_live bytes table old ready at T U by.form_is mid walk.stage walk.turns c.loop-visit.keys t))))));
 }
 
 pub returns-in_err-claim-in-Enter-clause-steps :

@@ -1,0 +1,121 @@
+-- The bits and the marks of units.
+use Rattle.std.proofs.Common.{◌≡◌, ◌≢◌, ℕ, zero, suc, ◌+◌, ◌*◌, ◌/◌, ◌%◌, ◌<◌, ◌≤◌, ◌==◌, ◌⊎◌, inl, inr, ⊎_elim, Bool, true, false, List, [], ◌∷◌, length, get_or, set, replicate, refl, sym, ap, ◌∙◌, subst, arith}
+use Rattle.std.proofs.Math.ListN.{length-set}
+use Rattle.std.proofs.lemmas.Bool.{cases_eq}
+use Rattle.std.proofs.lemmas.List.{get_or-set_other, get_or-set_same, get_or-replicate, get_or_past, length-replicate, set_past}
+use Rattle.std.proofs.lemmas.Nat.Bits.{bit_at-zero}
+use Rattle.std.specs.Int.{bit_at}
+use Rattle.seg_check.specs.declared.marks.Mark.{Mark}
+use Rattle.seg_check.specs.declared.marks.Mark.TheVariants.{Inside, Free, Live, Claimed, Named}
+use Rattle.seg_check.specs.Bits.{has, spelled, marks_from, mark_in, marks_in, AreTold, live_bit, allocated_bit, other_bit}
+
+-- ---- lists of marks
+
+pub length_marks : (mark : ℕ → Mark) (u n : ℕ) → length (marks_from mark u n) ≡ n
+length_marks mark u zero = refl
+length_marks mark u (suc n) = ap suc (length_marks mark (suc u) n)
+
+pub get_marks : (mark : ℕ → Mark) (u n i : ℕ) → i < n → get_or (marks_from mark u n) i Inside ≡ mark (u + i)
+get_marks mark u zero i inside = absurd (omega arith)
+get_marks mark u (suc n) zero inside =
+    let e : u ≡ u + 0 = omega arith in
+    ap mark e
+get_marks mark u (suc n) (suc i) inside =
+    let e : suc u + i ≡ u + suc i = omega arith in
+    get_marks mark (suc u) n i (omega arith) ∙ ap mark e
+
+pub same_marks : (old new : ℕ → Mark) (u n : ℕ) → ((v : ℕ) → u ≤ v → new v ≡ old v) → marks_from new u n ≡ marks_from old u n
+same_marks old new u zero same = refl
+same_marks old new u (suc n) same =
+    (λ j. same u (omega arith) j ∷ same_marks old new (suc u) n (λ v low. same v (omega arith)) j)
+
+pub set_marks : (old new : ℕ → Mark) (u n i : ℕ) (m : Mark) → new (u + i) ≡ m → ((v : ℕ) → v ≢ u + i → new v ≡ old v) → marks_from new u n ≡ set (marks_from old u n) i m
+set_marks old new u zero i m own others = refl
+set_marks old new u (suc n) zero m own others =
+    let e : u ≡ u + 0 = omega arith in
+    let here : new u ≡ m = ap new e ∙ own in
+    (λ j. here j ∷ same_marks old new (suc u) n (λ v low. others v (λ same. omega arith)) j)
+set_marks old new u (suc n) (suc i) m own others =
+    let e : u + suc i ≡ suc u + i = omega arith in
+    let rest = set_marks old new (suc u) n i m (ap new (sym e) ∙ own) (λ v other. others v (λ same. other (same ∙ e))) in
+    (λ j. others u (λ same. omega arith) j ∷ rest j)
+
+pub mark_there : (mark : ℕ → Mark) (n i : ℕ) → i < n → get_or (marks_from mark 0 n) i Inside ≡ mark i
+mark_there mark n i inside =
+    let e : 0 + i ≡ i = omega arith in
+    get_marks mark 0 n i inside ∙ ap mark e
+
+pub marks_set : (old new : ℕ → Mark) (n i : ℕ) (m : Mark) → new i ≡ m → ((v : ℕ) → v ≢ i → new v ≡ old v) → marks_from new 0 n ≡ set (marks_from old 0 n) i m
+marks_set old new n i m own others =
+    let e : 0 + i ≡ i = omega arith in
+    set_marks old new 0 n i m (ap new e ∙ own) (λ v other. others v (λ same. other (same ∙ sym e)))
+
+pub all_inside : (mark : ℕ → Mark) (u n : ℕ) → ((v : ℕ) → mark v ≡ Inside) → marks_from mark u n ≡ replicate n Inside
+all_inside mark u zero none = refl
+all_inside mark u (suc n) none = (λ j. none u j ∷ all_inside mark (suc u) n none j)
+
+-- ---- bits in words
+
+-- no bit of zeros is set
+pub no_bit : (n u : ℕ) → has (replicate n 0) u ≡ false
+no_bit n u =
+    let long : length (replicate {A = ℕ} n 0) ≡ n = length-replicate {A = ℕ} n 0 in
+    let word : get_or (replicate n 0) (u / 64) 0 ≡ 0 = ⊎_elim
+    (λ low. get_or-replicate n (u / 64) 0 0 low)
+    (λ high. get_or_past (replicate n 0) (u / 64) 0 (omega (arith, long, high)))
+    (split (u / 64) n) in
+    ap (λ w. bit_at w (u % 64) == 1) word ∙ ap (λ b. b == 1) (bit_at-zero (u % 64))
+  where
+    split : (x y : ℕ) → (x < y) ⊎ (y ≤ x)
+    split x zero = inr (omega arith)
+    split zero (suc y) = inl (omega arith)
+    split (suc x) (suc y) = ⊎_elim (λ l. inl (omega arith)) (λ l. inr (omega arith)) (split x y)
+
+pub put_own : (words : List ℕ) (unit w : ℕ) (to : Bool) → unit < 64 * length words → (bit_at w (unit % 64) == 1) ≡ to → has (set words (unit / 64) w) unit ≡ to
+put_own words unit w to inside is =
+    ap (λ x. bit_at x (unit % 64) == 1) (get_or-set_same words (unit / 64) w 0 (omega arith)) ∙ is
+
+pub put_other : (words : List ℕ) (unit w v : ℕ) → v ≢ unit → ((i : ℕ) → i < 64 → i ≢ unit % 64 → bit_at w i ≡ bit_at (get_or words (unit / 64) 0) i) → has (set words (unit / 64) w) v ≡ has words v
+put_other words unit w v other kept = ⊎_elim
+    (λ same.
+    ⊎_elim
+    (λ inside.
+    let there : get_or (set words (unit / 64) w) (v / 64) 0 ≡ w = ap (λ k. get_or (set words (unit / 64) w) k 0) (sym same) ∙ get_or-set_same words (unit / 64) w 0 inside in
+    ap (λ x. bit_at x (v % 64) == 1) there ∙ ap (λ b. b == 1) (kept (v % 64) (omega arith) (λ e. other (omega (arith, e, same)))) ∙ ap (λ k. bit_at (get_or words k 0) (v % 64) == 1) same)
+    (λ past. ap (λ ws. has ws v) (set_past words (unit / 64) w past))
+    (split (unit / 64) (length words)))
+    (λ apart. ap (λ x. bit_at x (v % 64) == 1) (get_or-set_other words (unit / 64) (v / 64) w 0 (λ e. apart (sym e))))
+    (cases_eq (unit / 64) (v / 64))
+  where
+    split : (x y : ℕ) → (x < y) ⊎ (y ≤ x)
+    split x zero = inr (omega arith)
+    split zero (suc y) = inl (omega arith)
+    split (suc x) (suc y) = ⊎_elim (λ l. inl (omega arith)) (λ l. inr (omega arith)) (split x y)
+
+-- ---- marks in bits
+
+pub spelled_bits : (m : Mark) → spelled (live_bit m) (allocated_bit m) (other_bit m) ≡ m
+spelled_bits Inside = refl
+spelled_bits Free = refl
+spelled_bits Live = refl
+spelled_bits Claimed = refl
+spelled_bits Named = refl
+
+pub spelled_same : (a b c x y z : Bool) → a ≡ x → b ≡ y → c ≡ z → spelled a b c ≡ spelled x y z
+spelled_same a b c x y z p q r = λ j. spelled (p j) (q j) (r j)
+
+-- of a mark `Live` the other bits follow
+pub told_bits : (m : Mark) → live_bit m ≡ true → (allocated_bit m ≡ true) × (other_bit m ≡ false)
+told_bits Inside is = cc
+told_bits Free is = cc
+told_bits Live is = (refl, refl)
+told_bits Claimed is = cc
+told_bits Named is = cc
+
+-- a mark that is spelled is `Live` only by its first bit
+pub live_told : (live allocated other : Bool) → spelled live allocated other ≡ Live → live ≡ true
+live_told true allocated other is = refl
+live_told false true true is = cc
+live_told false true false is = cc
+live_told false false true is = cc
+live_told false false false is = cc

@@ -1,0 +1,36 @@
+use Rattle.std.proofs.Common.{◌≡◌, ◌<◌, ◌*◌, ◌≤◌, ⊎_elim, length, get_or, set, refl, sym, ap, ◌∙◌, arith, true, false}
+use Rattle.std.proofs.lemmas.Bool.{cases_eq}
+use Rattle.seg_check.specs.declared.marks.Mark.TheVariants.{Inside, Live, Claimed}
+use Rattle.seg_check.specs.Bits.{has, mark_in}
+use Rattle.seg_check.proofs.Blocks.BitLaws.{length_marks, mark_there, marks_set, spelled_same, live_told}
+use Rattle.seg_check.proofs.marks.Marks.claim.Goals as goal
+
+false_true : {X : Type 0} → false ≡ true → X
+false_true e = cc
+
+pub returns : goal.returns
+returns g c = λ inside was.
+    let f = c.self.inside in
+    let u = c.args.unit in
+    let mark = mark_in f.live f.allocated f.other in
+    let long : f.units ≡ length c.args.self.now = sym (length_marks mark 0 f.units) ∙ ap length c.self.view_is in
+    let low : u < f.units = omega (arith, inside, long) in
+    let stands : mark u ≡ Live = sym (mark_there mark f.units u low) ∙ ap (λ ms. get_or ms u Inside) c.self.view_is ∙ was in
+    let told = c.self.invariant.3 u low (live_told (has f.live u) (has f.allocated u) (has f.other u) stands) in
+    let cleared : has c.put.new.self u ≡ false = c.put.ensures.own (omega (arith, low, c.self.invariant.0)) in
+    marks_set mark (mark_in c.put.new.self f.allocated f.other) f.units u Claimed
+    (spelled_same (has c.put.new.self u) (has f.allocated u) (has f.other u) false true false cleared told.0 told.1)
+    (λ v other. spelled_same (has c.put.new.self v) (has f.allocated v) (has f.other v) (has f.live v) (has f.allocated v) (has f.other v) (c.put.ensures.others v other) refl refl)
+    ∙ ap (λ ms. set ms u Claimed) c.self.view_is
+
+pub invariant_of-self : goal.invariant_of-self
+invariant_of-self g c =
+    let f = c.self.inside in (
+      omega (arith, c.self.invariant.0, c.put.ensures.len),
+      c.self.invariant.1,
+      c.self.invariant.2,
+      λ u low is. ⊎_elim
+          (λ same. false_true (sym (c.put.ensures.own (omega (arith, low, same, c.self.invariant.0))) ∙ ap (has c.put.new.self) (sym same) ∙ is))
+          (λ other. c.self.invariant.3 u low (sym (c.put.ensures.others u other) ∙ is))
+          (cases_eq u c.args.unit),
+    )
