@@ -191,9 +191,9 @@ impl<A: Allocator> Claims<A> {
         }
     }
 
-    /// Reads the first bytes of the nodes two links below the node that a pointer points to. A walk through a tree reaches
-    /// them soon, and they are then in the processor's cache: the reads wait for memory together, those of the walk one
-    /// after the other.
+    /// Reads the first bytes of the nodes two links below the node that a pointer points to. The processor fetches them
+    /// from memory together, and they are in its cache when the walk reaches them. Without these reads, the walk would
+    /// wait for one node after the other.
     #[inline(always)]
     pub(crate) fn look_ahead(&mut self, bytes: View, pointer: u32)
         ensures { self.new ≡ self.old }

@@ -1,13 +1,11 @@
 -- The bits and the marks of units.
-use Rattle.std.proofs.Common.{◌≡◌, ◌≢◌, ℕ, zero, suc, ◌+◌, ◌*◌, ◌/◌, ◌%◌, ◌<◌, ◌≤◌, ◌==◌, ◌⊎◌, inl, inr, ⊎_elim, Bool, true, false, List, [], ◌∷◌, length, get_or, set, replicate, refl, sym, ap, ◌∙◌, subst, arith}
-use Rattle.std.proofs.Math.ListN.{length-set}
-use Rattle.std.proofs.lemmas.Bool.{cases_eq}
-use Rattle.std.proofs.lemmas.List.{get_or-set_other, get_or-set_same, get_or-replicate, get_or_past, length-replicate, set_past}
+use Rattle.std.proofs.Common.{◌≡◌, ◌≢◌, ℕ, zero, suc, ◌+◌, ◌/◌, ◌%◌, ◌<◌, ◌≤◌, ◌==◌, ◌⊎◌, inl, inr, ⊎_elim, Bool, true, false, ◌∷◌, length, get_or, set, replicate, refl, sym, ap, ◌∙◌, arith}
+use Rattle.std.proofs.lemmas.List.{get_or-replicate, get_or_past, length-replicate}
 use Rattle.std.proofs.lemmas.Nat.Bits.{bit_at-zero}
 use Rattle.std.specs.Int.{bit_at}
 use Rattle.seg_check.specs.declared.marks.Mark.{Mark}
 use Rattle.seg_check.specs.declared.marks.Mark.TheVariants.{Inside, Free, Live, Claimed, Named}
-use Rattle.seg_check.specs.Bits.{has, spelled, marks_from, mark_in, marks_in, AreTold, live_bit, allocated_bit, other_bit}
+use Rattle.seg_check.specs.Bits.{has, spelled, marks_from, live_bit, allocated_bit, other_bit}
 
 -- ---- lists of marks
 
@@ -65,27 +63,6 @@ no_bit n u =
     (λ high. get_or_past (replicate n 0) (u / 64) 0 (omega (arith, long, high)))
     (split (u / 64) n) in
     ap (λ w. bit_at w (u % 64) == 1) word ∙ ap (λ b. b == 1) (bit_at-zero (u % 64))
-  where
-    split : (x y : ℕ) → (x < y) ⊎ (y ≤ x)
-    split x zero = inr (omega arith)
-    split zero (suc y) = inl (omega arith)
-    split (suc x) (suc y) = ⊎_elim (λ l. inl (omega arith)) (λ l. inr (omega arith)) (split x y)
-
-pub put_own : (words : List ℕ) (unit w : ℕ) (to : Bool) → unit < 64 * length words → (bit_at w (unit % 64) == 1) ≡ to → has (set words (unit / 64) w) unit ≡ to
-put_own words unit w to inside is =
-    ap (λ x. bit_at x (unit % 64) == 1) (get_or-set_same words (unit / 64) w 0 (omega arith)) ∙ is
-
-pub put_other : (words : List ℕ) (unit w v : ℕ) → v ≢ unit → ((i : ℕ) → i < 64 → i ≢ unit % 64 → bit_at w i ≡ bit_at (get_or words (unit / 64) 0) i) → has (set words (unit / 64) w) v ≡ has words v
-put_other words unit w v other kept = ⊎_elim
-    (λ same.
-    ⊎_elim
-    (λ inside.
-    let there : get_or (set words (unit / 64) w) (v / 64) 0 ≡ w = ap (λ k. get_or (set words (unit / 64) w) k 0) (sym same) ∙ get_or-set_same words (unit / 64) w 0 inside in
-    ap (λ x. bit_at x (v % 64) == 1) there ∙ ap (λ b. b == 1) (kept (v % 64) (omega arith) (λ e. other (omega (arith, e, same)))) ∙ ap (λ k. bit_at (get_or words k 0) (v % 64) == 1) same)
-    (λ past. ap (λ ws. has ws v) (set_past words (unit / 64) w past))
-    (split (unit / 64) (length words)))
-    (λ apart. ap (λ x. bit_at x (v % 64) == 1) (get_or-set_other words (unit / 64) (v / 64) w 0 (λ e. apart (sym e))))
-    (cases_eq (unit / 64) (v / 64))
   where
     split : (x y : ℕ) → (x < y) ⊎ (y ≤ x)
     split x zero = inr (omega arith)

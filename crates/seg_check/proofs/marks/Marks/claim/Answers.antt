@@ -1,4 +1,4 @@
-use Rattle.std.proofs.Common.{◌≡◌, ◌<◌, ◌*◌, ◌≤◌, ⊎_elim, length, get_or, set, refl, sym, ap, ◌∙◌, arith, true, false}
+use Rattle.std.proofs.Common.{◌≡◌, ◌<◌, ⊎_elim, length, get_or, set, refl, sym, ap, ◌∙◌, arith, true, false}
 use Rattle.std.proofs.lemmas.Bool.{cases_eq}
 use Rattle.seg_check.specs.declared.marks.Mark.TheVariants.{Inside, Live, Claimed}
 use Rattle.seg_check.specs.Bits.{has, mark_in}

@@ -1,4 +1,4 @@
-use Rattle.std.proofs.Common.{◌≡◌, ◌<◌, length, get_or, refl, sym, ap, ◌∙◌, arith, true, false}
+use Rattle.std.proofs.Common.{◌≡◌, length, get_or, refl, sym, ap, ◌∙◌, arith, true, false}
 use Rattle.seg_check.specs.declared.marks.Mark.TheVariants.{Inside}
 use Rattle.seg_check.specs.Bits.{has, mark_in}
 use Rattle.seg_check.proofs.Blocks.BitLaws.{length_marks, mark_there, spelled_same}

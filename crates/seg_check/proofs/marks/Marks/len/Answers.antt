@@ -1,4 +1,4 @@
-use Rattle.std.proofs.Common.{◌≡◌, length, sym, ap, ◌∙◌}
+use Rattle.std.proofs.Common.{length, sym, ap, ◌∙◌}
 use Rattle.seg_check.specs.Bits.{mark_in}
 use Rattle.seg_check.proofs.Blocks.BitLaws.{length_marks}
 use Rattle.seg_check.proofs.marks.Marks.len.Goals as goal

@@ -1,6 +1,5 @@
-use Rattle.std.proofs.Common.{◌≡◌, ◌+◌, ◌*◌, ◌/◌, ◌≤◌, length, sym, ap, ◌∙◌, arith, false}
-use Rattle.std.proofs.lemmas.List.{length-replicate}
-use Rattle.seg_check.specs.Bits.{has, mark_in}
+use Rattle.std.proofs.Common.{◌+◌, ◌/◌, ap, ◌∙◌, false}
+use Rattle.seg_check.specs.Bits.{has}
 use Rattle.seg_check.proofs.Blocks.BitLaws.{all_inside, no_bit, spelled_same}
 use Rattle.seg_check.proofs.marks.Marks.new.Goals as goal
 

@@ -1,4 +1,4 @@
-use Rattle.std.proofs.Common.{◌≡◌, ◌<◌, ◌*◌, ◌≤◌, ⊎_elim, length, set, refl, sym, ap, ◌∙◌, arith, true, false}
+use Rattle.std.proofs.Common.{◌≡◌, ⊎_elim, length, set, sym, ap, ◌∙◌, arith}
 use Rattle.std.proofs.lemmas.Bool.{cases_eq}
 use Rattle.seg_check.specs.Bits.{has, mark_in, live_bit, allocated_bit, other_bit}
 use Rattle.seg_check.proofs.Blocks.BitLaws.{length_marks, marks_set, spelled_same, spelled_bits, told_bits}
