@@ -98,51 +98,54 @@ fn are_bytes(found: Result<&[u8], Code>, text: &str) -> Result<bool, Code> {
     Ok(bytes.is_empty())
 }
 
-/// The rest of a text after its first word, if that is this number.
-fn after_number(text: &str, number: i64) -> Option<&str> {
-    let (word, rest) = text.split_once(' ').unwrap_or((text, ""));
-    (word.parse() == Ok(number)).then_some(rest)
+/// Whether the word at a position of a text is this number.
+fn is_word(text: &str, index: usize, number: i64) -> bool {
+    match text.split_whitespace().nth(index) {
+        Some(word) => word.parse() == Ok(number),
+        None => false,
+    }
 }
 
-/// The same with two numbers.
-fn after_entry(text: &str, key: i64, number: i64) -> Option<&str> {
-    after_number(after_number(text, key)?, number)
+/// Whether a text has this many words.
+fn has_words(text: &str, count: usize) -> bool {
+    text.split_whitespace().count() == count
 }
 
 /// Whether a vector or a list has the numbers of the call's text.
 fn are_items<S: ImageRead>(image: &S, call: &Call) -> Result<bool, Code> {
-    let mut rest = call.text;
+    let mut count = 0usize;
     for item in image.items(call.place)? {
-        match after_number(rest, ImageRead::load(image, item)?) {
-            Some(after) => rest = after,
-            None => return Ok(false),
+        if !is_word(call.text, count, ImageRead::load(image, item)?) {
+            return Ok(false);
         }
+        count = count.wrapping_add(1);
     }
-    Ok(rest.is_empty())
+    Ok(has_words(call.text, count))
 }
 
 /// Whether a map has the keys of the call's text, in order.
 fn are_keys<S: ImageRead>(image: &S, call: &Call) -> Result<bool, Code> {
-    let mut rest = call.text;
+    let mut count = 0usize;
     for key in image.keys(call.place)? {
-        match after_number(rest, key) {
-            Some(after) => rest = after,
-            None => return Ok(false),
+        if !is_word(call.text, count, key) {
+            return Ok(false);
         }
+        count = count.wrapping_add(1);
     }
-    Ok(rest.is_empty())
+    Ok(has_words(call.text, count))
 }
 
 /// Whether a map has the keys of the call's text, in order, each followed by its number.
 fn are_entries<S: ImageRead>(image: &S, call: &Call) -> Result<bool, Code> {
-    let mut rest = call.text;
+    let mut count = 0usize;
     for (key, value) in image.entries(call.place)? {
-        match after_entry(rest, key, ImageRead::load(image, value)?) {
-            Some(after) => rest = after,
-            None => return Ok(false),
+        let number = ImageRead::load(image, value)?;
+        if !is_word(call.text, count, key) || !is_word(call.text, count.wrapping_add(1), number) {
+            return Ok(false);
         }
+        count = count.wrapping_add(2);
     }
-    Ok(rest.is_empty())
+    Ok(has_words(call.text, count))
 }
 
 /// Whether an object is the one that a word describes: its name, its type, and the number of its values if there are several, as
