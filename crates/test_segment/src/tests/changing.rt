@@ -2,6 +2,7 @@
 
 use crate::tests::calls::{Answer, Call, Value};
 use crate::tests::image::is_told;
+use crate::tests::reading::wide;
 use crate::tests::support::opened;
 use crate::tests::tiles::are_live;
 use seg_image::{CheckedImage, Code, Image, ImageRead, Place, check};
@@ -87,7 +88,7 @@ fn change_memory(alloc: Global, image: &mut Image<Global>, call: &Call) -> Optio
 /// Calls on the bytes of an image, and comparisons of its blocks and places.
 fn on_bytes(alloc: Global, image: &mut Image<Global>, call: &Call) -> Option<Answer> {
     Some(Ok(match call.word {
-        "types" => Value::Number(image.types().len() as i64),
+        "types" => Value::Number(wide(image.types().len())),
         "fault" => Value::Flag(has_fault(alloc, image.bytes(), call.text)),
         "reopen" => Value::Flag(reopen(alloc, image)?),
         "saves" => Value::Flag(saves(alloc, image, call.text)?),

@@ -32,6 +32,11 @@ fn size(found: Result<u32, Code>) -> Answer {
     Ok(Value::Number(i64::from(found?)))
 }
 
+/// The number of types or of objects.
+pub(crate) fn wide(count: usize) -> i64 {
+    i64::try_from(count).unwrap_or(i64::MAX)
+}
+
 fn flag(found: Result<bool, Code>) -> Answer {
     Ok(Value::Flag(found?))
 }
@@ -42,7 +47,7 @@ fn read_objects<S: ImageRead>(image: &S, call: &Call) -> Option<Answer> {
         "find_item" => place(image.find_item(call.name, call.t, call.size())),
         "find_unique" => place(image.find_unique(call.t)),
         "count" => count(ImageRead::count(image, call.name, call.t)),
-        "num_unique" => Ok(Value::Number(image.num_unique() as i64)),
+        "num_unique" => Ok(Value::Number(wide(image.num_unique()))),
         "names" => Ok(Value::Flag(are_named(image, call.text))),
         "is_named" => Ok(Value::Flag(image.named_object(call.name).is_some())),
         _ => return read_values(image, call),

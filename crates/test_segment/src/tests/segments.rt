@@ -27,7 +27,8 @@ fn new_segments_are_zeroed(rt: HostRuntime) -> Result<(), Fail> {
 }
 
 /// 32 types.
-const MOST_TYPES: &str = "i64, i64, i64, i64, i64, i64, i64, i64, i64, i64, i64, i64, i64, i64, i64, i64, \
+const MOST_TYPES: &str =
+    "i64, i64, i64, i64, i64, i64, i64, i64, i64, i64, i64, i64, i64, i64, i64, i64, \
     i64, i64, i64, i64, i64, i64, i64, i64, i64, i64, i64, i64, i64, i64, i64, i64";
 
 fn has_the_last_type(segment: &mut Segment<SeqFit, Global>) -> bool {
