@@ -50,7 +50,10 @@ struct Count {
 }
 
 fn read(rt: &HostRuntime, name: &String) -> Result<Vec<u8>, Fail> {
-    Ok(HostFiles::new(rt).read(rt.alloc(), name.as_str(), LIMIT)?)
+    match HostFiles::new(rt).read(rt.alloc(), name.as_str(), LIMIT) {
+        Ok(bytes) => Ok(bytes),
+        Err(_) => Err(Fail::new(format_args!("{name} can't be read"))),
+    }
 }
 
 /// Plays the cases of a file, and tells which of them fail, and why.
