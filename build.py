@@ -20,6 +20,16 @@ NO_TOOLCHAIN = """The command `rt` of Rattle's toolchain isn't on the path, so n
 README.md says under "What is proved" which release of it this repository is proved with."""
 
 
+# A proof takes at most this much memory, in kilobytes. `rt ci` sets more aside for large crates, and then leaves processors idle.
+PROOF = 4_500_000
+
+
+def lanes():
+    """How many crates to prove at a time."""
+    memory = re.search(r"^MemAvailable: +(\d+)", Path("/proc/meminfo").read_text(encoding="ascii"), re.M)
+    return max(1, min(os.cpu_count() or 1, int(memory[1]) // PROOF))
+
+
 def read_crates():
     """The libraries that each crate of `crates.txt` uses, and its line there."""
     found = {}
@@ -123,4 +133,5 @@ def main():
 
 if __name__ == "__main__":
     os.environ["PYTHONUNBUFFERED"] = "1"
+    os.environ.setdefault("RT_JOBS", str(lanes()))
     sys.exit(main())
