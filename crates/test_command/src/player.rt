@@ -323,14 +323,20 @@ fn repeated(alloc: Global, lines: &str, times: u32) -> Result<String, Fail> {
 fn finds(alloc: Global, lines: &str) -> Result<(), Fail> {
     for line in lines.lines() {
         let case = line.split_once(';').map_or(line, |parts| parts.0);
-        if let Some((changes, fault)) = case.split_once(" => ") {
-            let mut files = Stored::new(alloc);
-            files.add("image", counter_where(alloc, changes)?.as_slice())?;
-            let printed = Printed::by(alloc, &["segtool", "check", "image"], &mut files, ALL);
-            if !printed.is_fault(fault.trim()) {
-                return Err(Fail::new(format_args!("not so: {line}")));
-            }
+        if case.trim().is_empty() {
+            continue;
+        }
+        let (changes, fault) = case.split_once(" => ").ok_or("no case")?;
+        if !has_fault(alloc, changes, fault.trim())? {
+            return Err(Fail::new(format_args!("not so: {line}")));
         }
     }
     Ok(())
+}
+
+fn has_fault(alloc: Global, changes: &str, fault: &str) -> Result<bool, Fail> {
+    let mut files = Stored::new(alloc);
+    files.add("image", counter_where(alloc, changes)?.as_slice())?;
+    let printed = Printed::by(alloc, &["segtool", "check", "image"], &mut files, ALL);
+    Ok(printed.is_fault(fault))
 }
