@@ -86,6 +86,9 @@ fn region_of(image: Image<Global>) -> Region<Global> {
 
 /// The number at a place of the image in such a region.
 fn number_in(alloc: Global, region: &Region<Global>, place: Place) -> Result<i64, Fail> {
+    if region.len() < 2048 + 784 {
+        return Err(Fail::new("a short region"));
+    }
     let bytes = Vec::from_slice(alloc, region.slice(2048, 784))?;
     let image = opened(alloc, bytes).ok_or("unsound")?;
     Ok(image.load(place)?)
