@@ -21,23 +21,22 @@ enum Call {
     Print,
 }
 
-/// Runs the increment client on an image in this memory. Returns the length of the saved image.
-fn run_within(
-    heap: &LocalHeap,
-    image: &[u8],
-    out: &mut Through<Limited>,
-) -> Result<usize, Refused> {
+/// Runs the increment client on an image in this memory. Returns the length of the saved image, and what was written.
+fn run_within(alloc: Global, heap: &LocalHeap, image: &[u8]) -> (Result<usize, Refused>, Vec<u8>) {
     let clients = [INCREMENT_FILE.as_slice()];
-    let outcome = run_bytes(heap, image, clients.as_slice(), b"", &SCHEDULE, out)?;
-    Ok(outcome.image.len())
+    let mut out = Through::new(Limited::unlimited(alloc));
+    let ran = match run_bytes(heap, image, clients.as_slice(), b"", &SCHEDULE, &mut out) {
+        Ok(outcome) => Ok(outcome.image.len()),
+        Err(refused) => Err(refused),
+    };
+    (ran, out.into_inner().bytes)
 }
 
 /// Either the client runs completely, or it is refused for lack of memory before anything is written.
 fn runs(alloc: Global, heap: &LocalHeap) -> Result<Option<Fault>, Fail> {
     let image = counter(alloc)?;
-    let mut out = Through::new(Limited::unlimited(alloc));
-    let ran = run_within(heap, image.as_slice(), &mut out);
-    ended(ran, out.into_inner().bytes.as_slice())
+    let (ran, written) = run_within(alloc, heap, image.as_slice());
+    ended(ran, written.as_slice())
 }
 
 fn ended(ran: Result<usize, Refused>, written: &[u8]) -> Result<Option<Fault>, Fail> {
