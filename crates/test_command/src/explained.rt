@@ -42,22 +42,33 @@ pub(crate) fn explains(
     Err(Fail::new(format_args!("{found}, and not {wanted}")))
 }
 
+/// An image alone.
+fn image_alone(image: &[u8]) -> Sources<'_> {
+    Sources {
+        image: Some(image),
+        clients: &[],
+        text: None,
+    }
+}
+
+/// Clients alone.
+fn clients_alone<'a>(clients: &'a [&'a [u8]]) -> Sources<'a> {
+    Sources {
+        image: None,
+        clients,
+        text: None,
+    }
+}
+
 fn of_client(alloc: Global, text: &str) -> Result<Vec<u8>, Fail> {
     let file = assemble(alloc, text.as_bytes())?;
     match verify_typed(parse_typed(file.as_slice())?, &TypeTable::new()) {
         Ok(_client) => Ok(Vec::new(alloc)),
-        Err(fault) => of_client_file(alloc, fault, file.as_slice()),
+        Err(fault) => {
+            let clients = [file.as_slice()];
+            Ok(explain(alloc, fault, None, &clients_alone(&clients))?)
+        }
     }
-}
-
-fn of_client_file(alloc: Global, fault: Fault, file: &[u8]) -> Result<Vec<u8>, Fail> {
-    let clients = [file];
-    let sources = Sources {
-        image: None,
-        clients: &clients,
-        text: None,
-    };
-    Ok(explain(alloc, fault, None, &sources)?)
 }
 
 fn of_text(alloc: Global, text: &[u8]) -> Result<Vec<u8>, Fail> {
@@ -75,36 +86,41 @@ fn of_text(alloc: Global, text: &[u8]) -> Result<Vec<u8>, Fail> {
 fn of_file(alloc: Global, words: &str) -> Result<Vec<u8>, Fail> {
     let (len, changed) = words.split_once(' ').ok_or("no position")?;
     let (at, byte) = changed.split_once(' ').ok_or("no byte")?;
+    changed_file(alloc, len.parse()?, at.parse()?, byte.parse()?)
+}
+
+/// Explains the fault of the increment client after it is cut to this length and one byte is replaced.
+fn changed_file(alloc: Global, len: usize, at: usize, byte: u8) -> Result<Vec<u8>, Fail> {
     let mut file = INCREMENT_FILE;
-    write(&mut file, at.parse()?, &[byte.parse()?]);
-    let file = front(&file, len.parse()?);
+    write(&mut file, at, &[byte]);
+    let file = front(&file, len);
     match parse(file) {
         Ok(_) => Ok(Vec::new(alloc)),
-        Err(fault) => of_client_file(alloc, fault, file),
+        Err(fault) => {
+            let clients = [file];
+            Ok(explain(alloc, fault, None, &clients_alone(&clients))?)
+        }
     }
 }
 
 fn of_other(alloc: Global, words: &str, file: &[u8]) -> Result<Vec<u8>, Fail> {
-    match words {
-        "client" => of_client_file(alloc, Fault::BadCode(0), file),
-        _ => of_image_file(alloc, Fault::BadHeader, file),
+    let file = Vec::from_slice(alloc, file)?;
+    if words == "client" {
+        let clients = [file.as_slice()];
+        return Ok(explain(alloc, Fault::BadCode(0), None, &clients_alone(&clients))?);
     }
-}
-
-fn of_image_file(alloc: Global, fault: Fault, image: &[u8]) -> Result<Vec<u8>, Fail> {
-    let sources = Sources {
-        image: Some(image),
-        clients: &[],
-        text: None,
-    };
-    Ok(explain(alloc, fault, None, &sources)?)
+    let sources = image_alone(file.as_slice());
+    Ok(explain(alloc, Fault::BadHeader, None, &sources)?)
 }
 
 /// Explains the fault that `check` finds.
-fn of_checked(alloc: Global, image: &[u8]) -> Result<Vec<u8>, Fail> {
-    match check(alloc, image) {
+fn of_checked(alloc: Global, image: Vec<u8>) -> Result<Vec<u8>, Fail> {
+    match check(alloc, image.as_slice()) {
         Ok(_types) => Ok(Vec::new(alloc)),
-        Err(fault) => of_image_file(alloc, fault, image),
+        Err(fault) => {
+            let sources = image_alone(image.as_slice());
+            Ok(explain(alloc, fault, None, &sources)?)
+        }
     }
 }
 
@@ -119,14 +135,13 @@ fn of_image(alloc: Global, words: &str) -> Result<Vec<u8>, Fail> {
         None => changes,
     };
     change(image.as_mut_slice(), changes).ok_or("no changes")?;
-    of_checked(alloc, image.as_slice())
+    of_checked(alloc, image)
 }
 
 fn of_changed(alloc: Global, contents: &str, changes: &str) -> Result<Vec<u8>, Fail> {
     let mut image = counter(alloc)?;
     image.extend_from_slice(&[0; 240])?;
-    for changes in [contents, changes] {
-        change(image.as_mut_slice(), changes).ok_or("no changes")?;
-    }
-    of_checked(alloc, image.as_slice())
+    change(image.as_mut_slice(), contents).ok_or("no changes")?;
+    change(image.as_mut_slice(), changes).ok_or("no changes")?;
+    of_checked(alloc, image)
 }

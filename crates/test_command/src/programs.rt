@@ -45,16 +45,24 @@ pub(crate) fn tells(alloc: Global, word: &str, rest: &str, lines: &str) -> Resul
 }
 
 fn errors_of(alloc: Global, program: &str) -> Result<String, AllocError> {
+    let misread = misread_of(alloc, program)?;
+    if misread.is_empty() {
+        return errors_in(alloc, program);
+    }
+    Ok(misread)
+}
+
+/// The errors of a program that can be read.
+fn errors_in(alloc: Global, program: &str) -> Result<String, AllocError> {
     let text = program.as_bytes();
-    let tree = match parse(alloc, text) {
-        Ok(tree) => tree,
-        Err(failure) => return misread(alloc, text, failure),
+    let Ok(tree) = parse(alloc, text) else {
+        return String::from_str(alloc, "no tree");
     };
-    let mut lines = String::new(alloc);
     match compile(alloc, &tree, &TypeTable::new()) {
-        Ok(_) => {}
-        Err(Failure::Memory) => return Err(AllocError),
+        Ok(_) => Ok(String::new(alloc)),
+        Err(Failure::Memory) => Err(AllocError),
         Err(Failure::Errors(wrong)) => {
+            let mut lines = String::new(alloc);
             for error in wrong.errors.as_slice() {
                 let (line, column) = (error.span.line, error.span.column);
                 let message = error.message(text, &wrong.types);
@@ -63,9 +71,9 @@ fn errors_of(alloc: Global, program: &str) -> Result<String, AllocError> {
                     None => writeln!(lines, "{line}:{column}: {message} / -")?,
                 }
             }
+            Ok(lines)
         }
     }
-    Ok(lines)
 }
 
 /// The errors of a program that has no tree.
