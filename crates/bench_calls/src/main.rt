@@ -12,7 +12,7 @@ use lezgauri::{
     BestFit, Code, ENTRY, Fault, Fit, Heap, IndexKind, Numbers, Place, Region, Segment, SeqFit,
     Type, TypeId, TypeTable,
 };
-use seg_space::{create, zero_free_memory};
+use seg_manager::{create, zero_free_memory};
 use std::alloc::{Allocator, Global};
 use std::env;
 use std::process::ExitCode;

@@ -10,9 +10,9 @@ use Rattle.seg_spec.specs.Sound.{Picture, IsHeld, times, positions}
 use Rattle.seg_spec.specs.Counting.{AreCounted}
 use Rattle.seg_spec.specs.Images.{IsSound}
 use Rattle.lezgauri.specs.Faults.{IsImageOf}
-use Rattle.seg_space.specs.Gaps.{IsZeroed}
-use Rattle.seg_space.specs.NewSegments.{nothing}
-use Rattle.seg_space.specs.Sizes.{used_front, KeepsFixedParts, Grows, ShrinksSegment}
+use Rattle.seg_manager.specs.Gaps.{IsZeroed}
+use Rattle.seg_manager.specs.NewSegments.{nothing}
+use Rattle.seg_manager.specs.Sizes.{used_front, KeepsFixedParts, Grows, ShrinksSegment}
 use Rattle.lezgauri.specs.Stored.{Stored}
 use Rattle.lezgauri.specs.Segments.{IsSegment}
 use Rattle.lezgauri_c.specs.Segments.{IsNewImage, HasGrown, HasShrunk}

@@ -11,9 +11,9 @@ use Rattle.seg_spec.specs.Heap.{live, gaps, after_extend, units_to_cut}
 use Rattle.seg_spec.specs.Block.{KeepsBlock}
 use Rattle.seg_spec.specs.Sound.{times, positions}
 use Rattle.seg_spec.specs.Images.{IsSound}
-use Rattle.seg_space.specs.Gaps.{IsZeroed}
-use Rattle.seg_space.specs.NewSegments.{nothing}
-use Rattle.seg_space.specs.Sizes.{used_front, KeepsFixedParts}
+use Rattle.seg_manager.specs.Gaps.{IsZeroed}
+use Rattle.seg_manager.specs.NewSegments.{nothing}
+use Rattle.seg_manager.specs.Sizes.{used_front, KeepsFixedParts}
 
 -- Its version is the one that may have frozen objects, of which none was numbered yet. The unused
 -- bytes of its free memory are 0.

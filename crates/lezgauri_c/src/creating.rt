@@ -1,6 +1,6 @@
 ghost use Rattle.std.specs.Prelude.{◌≡◌, ◌↔◌, ◌⊎◌, ◌<◌, ◌≤◌, length, take, IsOk, IfErr, OnOk, OnErr};
 ghost use Rattle.seg_spec.specs.Faulty.{IsImageLength};
-ghost use Rattle.seg_space.specs.NewSegments.{word_of_kind};
+ghost use Rattle.seg_manager.specs.NewSegments.{word_of_kind};
 ghost use Rattle.lezgauri_c.specs.Segments.{IsNewImage};
 ghost use Rattle.seg_raw.specs.Homes.{home_of};
 ghost use Rattle.lezgauri_c.specs.Memory.{memory_of};
@@ -8,8 +8,8 @@ ghost use Rattle.lezgauri_c.specs.Memory.{memory_of};
 use crate::lent::Lent;
 use crate::status::{BAD_ARGUMENT, OK};
 use lezgauri::{BestFit, Fit, IndexKind, Region, SeqFit, is_size};
+use seg_manager::create;
 use seg_raw::{Fault as Reason, shorten};
-use seg_space::create;
 use std::alloc::Allocator;
 use std_alloc::vec::Lodged;
 

@@ -4,8 +4,8 @@ ghost use Rattle.seg_spec.specs.Header.{allocator_word};
 ghost use Rattle.seg_spec.specs.Heap.{gaps};
 ghost use Rattle.seg_spec.specs.Images.{IsSound};
 ghost use Rattle.seg_spec.specs.Window.{region_of};
-ghost use Rattle.seg_space.specs.Gaps.{bytes_in_gaps, largest_of};
-ghost use Rattle.seg_space.specs.Sizes.{MayGrowTo};
+ghost use Rattle.seg_manager.specs.Gaps.{bytes_in_gaps, largest_of};
+ghost use Rattle.seg_manager.specs.Sizes.{MayGrowTo};
 ghost use Rattle.lezgauri_c.specs.Segments.{HasGrown, HasShrunk};
 ghost use Rattle.lezgauri_c.specs.Memory.{memory_of};
 ghost use Rattle.seg_raw.specs.Homes.{home_of};
@@ -101,7 +101,7 @@ fn grown_on<F: Fit, A: Allocator>(window: Window<A>, types: TypeTable, extra: u3
     ensures home { home_of result ≡ window.home }
 {
     let mut segment: Segment<F, A> = Segment::new(window, types);
-    seg_space::grow(&mut segment, extra).unwrap();
+    seg_manager::grow(&mut segment, extra).unwrap();
     segment.into_window().into_bytes()
 }
 
@@ -144,7 +144,7 @@ fn shrunk_on<F: Fit, A: Allocator>(window: Window<A>, types: TypeTable) -> Vec<u
     ensures home { home_of result ≡ window.home }
 {
     let mut segment: Segment<F, A> = Segment::new(window, types);
-    let _ = seg_space::shrink_to_fit(&mut segment);
+    let _ = seg_manager::shrink_to_fit(&mut segment);
     segment.into_window().into_bytes()
 }
 
@@ -204,8 +204,8 @@ fn free_memory_on<F: Fit, A: Allocator>(
 {
     let segment: Segment<F, A> = Segment::new(window, types);
     let free = (
-        seg_space::free_memory(&segment),
-        seg_space::largest_gap(&segment),
+        seg_manager::free_memory(&segment),
+        seg_manager::largest_gap(&segment),
     );
     (free, segment.into_window().into_bytes())
 }

@@ -8,7 +8,7 @@ use Rattle.seg_spec.specs.Counting.{AreCounted}
 use Rattle.seg_raw.specs.declared.fault.Fault.{Fault}
 use Rattle.seg_value.specs.Stored.{Stored}
 use Rattle.seg_manager.specs.Segments.{IsSegment}
-use Rattle.seg_space.specs.Sizes.{Grows}
+use Rattle.seg_manager.specs.Sizes.{Grows}
 use Rattle.seg_image.specs.Growth.{GrowsImage}
 
 pub image_grows : {allocator : ℕ} {old new : Stored} {picture : Picture} {extra : ℕ} → Grows allocator old new picture extra → GrowsImage allocator old.window.bytes new picture extra

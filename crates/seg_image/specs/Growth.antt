@@ -7,7 +7,7 @@ use Rattle.seg_spec.specs.Block.{KeepsBlock}
 use Rattle.seg_spec.specs.Sound.{Picture, times, positions}
 use Rattle.seg_value.specs.Stored.{Stored}
 use Rattle.seg_manager.specs.Segments.{IsSegment}
-use Rattle.seg_space.specs.Sizes.{used_front, KeepsFixedParts}
+use Rattle.seg_manager.specs.Sizes.{used_front, KeepsFixedParts}
 
 -- The segment has `extra` bytes more than these bytes, and the same picture. Each allocated block
 -- is kept. A single new unit is added to a block that ended at the end. The new bytes after the

@@ -7,7 +7,7 @@ pub mod Iterators
 pub mod TypeLists
 -- the words of the crates below that the contracts cite
 pub use Rattle.seg_value.specs.Stored
-pub use Rattle.seg_space.specs.NewSegments
+pub use Rattle.seg_manager.specs.NewSegments
 pub use Rattle.seg_check.specs.Faults
 pub use Rattle.seg_check.specs.Owners as OwnerFaults
 pub use Rattle.seg_manager.specs.Segments

@@ -1,6 +1,6 @@
 ghost use Rattle.std.specs.Prelude.{◌≡◌, ◌⊎◌, replicate, IfOk, IfErr};
 ghost use Rattle.seg_spec.specs.Faulty.{IsImageLength};
-ghost use Rattle.seg_space.specs.NewSegments.{IsNewSegment};
+ghost use Rattle.seg_manager.specs.NewSegments.{IsNewSegment};
 ghost use Rattle.seg_image.specs.Images.{segment_of, allocator_of, allocator_number};
 
 use crate::image::Image;
@@ -55,7 +55,7 @@ fn empty<F: Fit, A: Allocator>(
         return Err(Fault::BadSize);
     }
     let region = Region::new(alloc, size)?;
-    match seg_space::create(region, 0, size, index) {
+    match seg_manager::create(region, 0, size, index) {
         Ok(segment) => Ok(segment),
         Err((fault, _)) => Err(fault),
     }

@@ -3,9 +3,9 @@ ghost use Rattle.seg_spec.specs.Heap.{IsHeap, live, gaps};
 ghost use Rattle.seg_spec.specs.Sound.{Picture};
 ghost use Rattle.seg_spec.specs.Window.{region_of};
 ghost use Rattle.seg_raw.specs.Homes.{home_of};
-ghost use Rattle.seg_space.specs.Gaps.{bytes_in_gaps, largest_of, ZeroesGaps};
+ghost use Rattle.seg_manager.specs.Gaps.{bytes_in_gaps, largest_of, ZeroesGaps};
 ghost use Rattle.seg_manager.specs.Segments.{IsSegment};
-ghost use Rattle.seg_space.specs.Sizes.{MayGrowTo, ShrinksSegment};
+ghost use Rattle.seg_manager.specs.Sizes.{MayGrowTo, ShrinksSegment};
 ghost use Rattle.seg_image.specs.Images.{segment_of, allocator_of, bytes_in, types_of, IsOpen, ChangesBytes};
 ghost use Rattle.seg_image.specs.Growth.{GrowsImage};
 
@@ -22,7 +22,7 @@ impl<A: Allocator> Image<A> {
         ensures { IsHeap (allocator_of self.now) (bytes_in self.now) →
             result ≡ bytes_in_gaps (gaps (bytes_in self.now)) }
     {
-        on!(self, segment => seg_space::free_memory(segment))
+        on!(self, segment => seg_manager::free_memory(segment))
     }
 
     /// The size of the largest free block in bytes, with its header of 16 bytes.
@@ -30,7 +30,7 @@ impl<A: Allocator> Image<A> {
         ensures { IsHeap (allocator_of self.now) (bytes_in self.now) →
             result ≡ largest_of (gaps (bytes_in self.now)) }
     {
-        on!(self, segment => seg_space::largest_gap(segment))
+        on!(self, segment => seg_manager::largest_gap(segment))
     }
 
     /// Whether the heap is one free block, so that no object uses memory.
@@ -38,7 +38,7 @@ impl<A: Allocator> Image<A> {
         ensures { IsHeap (allocator_of self.now) (bytes_in self.now) →
             (IsTrue result ↔ (live (bytes_in self.now) ≡ [])) }
     {
-        on!(self, segment => seg_space::all_memory_deallocated(segment))
+        on!(self, segment => seg_manager::all_memory_deallocated(segment))
     }
 
     /// Writes 0 to the bytes of free blocks that the allocator doesn't use, so that a saved image shows nothing of
@@ -49,7 +49,7 @@ impl<A: Allocator> Image<A> {
             ZeroesGaps (allocator_of self.old) (segment_of self.old) (segment_of self.new)
             picture }
     {
-        on!(self, segment => seg_space::zero_free_memory(segment))
+        on!(self, segment => seg_manager::zero_free_memory(segment))
     }
 
     /// Adds `extra` bytes at the end, and returns the new size in bytes. `BadSize` if that isn't a size of a segment or
@@ -86,7 +86,7 @@ impl<A: Allocator> Image<A> {
             ShrinksSegment (allocator_of self.old) (segment_of self.old) (segment_of self.new)
             picture result }
     {
-        on!(self, segment => seg_space::shrink_to_fit(segment))
+        on!(self, segment => seg_manager::shrink_to_fit(segment))
     }
 }
 
@@ -106,7 +106,7 @@ fn grow<F: Fit, A: Allocator>(segment: &mut Segment<F, A>, extra: u32) -> Result
     ensures home { let home = segment.old.window.home in
         length segment.old.window.bytes + extra ≤ home.room → segment.new.window.home ≡ home }
 {
-    match seg_space::grow(segment, extra) {
+    match seg_manager::grow(segment, extra) {
         Err(Fault::NoHostRoom) => grow_memory(segment, extra),
         grown => grown,
     }
@@ -126,7 +126,7 @@ fn grow_memory<F: Fit, A: Allocator>(segment: &mut Segment<F, A>, extra: u32) ->
 {
     let size = segment.window().len() + extra;
     replace_with(segment, size, with_room)?;
-    seg_space::grow(segment, extra)
+    seg_manager::grow(segment, extra)
 }
 
 /// The segment at the start of its memory, which then has `room` bytes, or as many as before if more are refused.

@@ -13,3 +13,10 @@ pub mod ObjectAsks
 pub mod ClearedItems
 pub mod NamedLeaves
 mod ObjectCountLaws
+pub mod EmptyImages
+pub mod TileWalk
+pub mod KeptOrder
+pub mod ZeroedGaps
+pub mod NewZeros
+pub mod ResizeLaws
+pub mod NewSegmentLaws

@@ -6,9 +6,9 @@ use client_code::{Client, TypeTable, parse};
 use std::alloc::Global;
 use std::io::Eprint;
 use std::test::Fail;
-use support_data::write_words;
-use support_runs::{
+use support_data::{
     KINDS, PLAIN, SegmentKind, Setting, client, empty, run_files, statistics_of, verified,
+    write_words,
 };
 
 const INPUT: &[u8] = b"the input of a client";

@@ -4,8 +4,9 @@ use crate::tests::clients::opened;
 use lezgauri::{Image, ImageRead};
 use std::alloc::Global;
 use std::test::Fail;
-use support_data::{MAKE_EACH_KIND, front, is_true, sharing, write_words};
-use support_runs::{KINDS, SegmentKind, run_anew};
+use support_data::{
+    KINDS, MAKE_EACH_KIND, SegmentKind, front, is_true, run_anew, sharing, write_words,
+};
 
 /// How a byte is changed: one bit, all bits, every second bit.
 static CHANGES: [u8; 11] = [1, 2, 4, 8, 16, 32, 64, 128, 0xff, 0x55, 0xaa];

@@ -5,8 +5,7 @@ use lezgauri_uses::{Cache, Settings, count, new_counter, read_settings, write_se
 use std::alloc::Global;
 use std::fmt::InlineText;
 use std::test::Fail;
-use support_data::{COUNT, Limited, SETTINGS, equal, is_true};
-use support_runs::client;
+use support_data::{COUNT, Limited, SETTINGS, client, equal, is_true};
 
 /// Runs a client this many times on an image. Returns the image afterwards if the client printed this text.
 fn counted(

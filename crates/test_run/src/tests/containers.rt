@@ -1,6 +1,6 @@
 use crate::tests::plays::{Play, play_each};
 use std::test::Fail;
-use support_runs::{BEST_FLAT, KINDS, SEQ_FLAT};
+use support_data::{BEST_FLAT, KINDS, SEQ_FLAT};
 
 /// Makes a vector of five texts.
 pub(crate) const FIVE_TEXTS: &str = "type str

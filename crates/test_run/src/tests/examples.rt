@@ -2,8 +2,7 @@
 
 use crate::tests::plays::{Play, play_each};
 use std::test::Fail;
-use support_data::{CACHE, CONFIGURE, COUNT, SETTINGS};
-use support_runs::KINDS;
+use support_data::{CACHE, CONFIGURE, COUNT, KINDS, SETTINGS};
 
 static PLAYS: [Play; 3] = [
     // Clients share a counter over several runs of the program.

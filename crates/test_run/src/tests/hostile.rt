@@ -1,8 +1,7 @@
 use seg_manager::TypeTable;
 use std::process::Abort;
 use std::test::Fail;
-use support_data::{INCREMENT_FILE, counter, is_true};
-use support_runs::{PLAIN, Setting, run_files, verified};
+use support_data::{INCREMENT_FILE, PLAIN, Setting, counter, is_true, run_files, verified};
 
 /// Runs a client, if it is accepted, on the counter's image. It must end within its bound.
 fn ends_within_its_bound(

@@ -1,8 +1,7 @@
 use client_vm::Ended;
 use std::process::Abort;
 use std::test::Fail;
-use support_data::{equal, is_true};
-use support_runs::{Ran, statistics_of};
+use support_data::{Ran, equal, is_true, statistics_of};
 
 /// Tests what the clients print, and how many bytes are free and how many names there are afterwards.
 pub(crate) fn leaves(

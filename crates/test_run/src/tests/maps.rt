@@ -1,7 +1,7 @@
 use crate::tests::plays::{Play, play_each, plays_with};
 use std::alloc::Global;
 use std::test::Fail;
-use support_runs::{KINDS, SEQ_FLAT};
+use support_data::{KINDS, SEQ_FLAT};
 
 /// Makes a map of type 1 with the smallest and the largest number as keys. Prints the first key, the next key, and the code after
 /// the last one.

@@ -1,6 +1,6 @@
 use crate::tests::plays::{Play, play_each};
 use std::test::Fail;
-use support_runs::{KINDS, SEQ_FLAT};
+use support_data::{KINDS, SEQ_FLAT};
 
 /// Makes x, stores 42 and prints it, or prints the code.
 const MAKE: &str = "type i64

@@ -2,8 +2,9 @@ use crate::tests::plays::{Play, play_each, plays_with};
 use client_vm::Ended;
 use std::alloc::Global;
 use std::test::Fail;
-use support_data::{chain, is_true};
-use support_runs::{KINDS, PLAIN, Ran, SegmentKind, Setting, empty, run_in, statistics_of};
+use support_data::{
+    KINDS, PLAIN, Ran, SegmentKind, Setting, chain, empty, is_true, run_in, statistics_of,
+};
 
 /// A chain of 20,000 objects, each of which owns the one before, is made and destroyed.
 #[test]

@@ -7,10 +7,9 @@ use seg_manager::{Fault, Region, Segment};
 use std::alloc::Global;
 use std::process::Abort;
 use std::test::Fail;
-use support_data::{INCREMENT_FILE, Limited, chain, counter, counter_saved, equal, is_true};
-use support_runs::{
-    KINDS, PLAIN, Ran, SEQ_FLAT, SeqFit, Setting, empty, opened, outcome_of, placed, ready,
-    run_files, run_in,
+use support_data::{
+    INCREMENT_FILE, KINDS, Limited, PLAIN, Ran, SEQ_FLAT, SeqFit, Setting, chain, counter,
+    counter_saved, empty, equal, is_true, opened, outcome_of, placed, ready, run_files, run_in,
 };
 
 /// The size of the host. All its bytes outside the segment are 0xa5.

@@ -17,8 +17,9 @@ use seg_manager::IndexKind;
 use std::alloc::Global;
 use std::str;
 use std::test::Fail;
-use support_data::statements;
-use support_runs::{PLAIN, Ran, SegmentKind, Setting, client, empty, run_files, statistics_of};
+use support_data::{
+    PLAIN, Ran, SegmentKind, Setting, client, empty, run_files, statements, statistics_of,
+};
 
 /// A text of statements, which is performed on each of these kinds of segments. Each client has a name and a text.
 pub(crate) struct Play {

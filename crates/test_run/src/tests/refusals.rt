@@ -4,8 +4,9 @@ use client_vm::{Move, Refused};
 use seg_manager::Fault;
 use std::process::Abort;
 use std::test::Fail;
-use support_data::{INCREMENT_FILE, counter, counter_saved, counter_where, equal};
-use support_runs::{PLAIN, Setting, outcome_in};
+use support_data::{
+    INCREMENT_FILE, PLAIN, Setting, counter, counter_saved, counter_where, equal, outcome_in,
+};
 
 /// A region of the counter's length.
 const WHOLE: Setting<'static> = Setting { room: 784, ..PLAIN };

@@ -8,10 +8,9 @@ use seg_manager::{Fault, TypeTable};
 use std::alloc::Global;
 use std::process::Abort;
 use std::test::Fail;
-use support_data::{COUNT, NOTICE, PUBLISH, equal, is_true, sharing, write_words};
-use support_runs::{
-    KINDS, PLAIN, Ran, SEQ_FLAT, SegmentKind, Setting, checked, client, empty, outcome_of,
-    run_anew, run_in, run_on, verified,
+use support_data::{
+    COUNT, KINDS, NOTICE, PLAIN, PUBLISH, Ran, SEQ_FLAT, SegmentKind, Setting, checked, client,
+    empty, equal, is_true, outcome_of, run_anew, run_in, run_on, sharing, verified, write_words,
 };
 
 /// Freezes a number into a cell, shares it with another cell, destroys the first cell, and reads the number through the second.

@@ -2,8 +2,9 @@ use crate::tests::plays::{Play, play_each};
 use client_vm::Ended;
 use std::process::Abort;
 use std::test::Fail;
-use support_data::{MAKE_EACH_KIND, equal, is_true};
-use support_runs::{KINDS, SEQ_FLAT, SegmentKind, run_anew, statistics_of};
+use support_data::{
+    KINDS, MAKE_EACH_KIND, SEQ_FLAT, SegmentKind, equal, is_true, run_anew, statistics_of,
+};
 
 /// Destroys the objects that [`MAKE_EACH_KIND`] made.
 const KILL_EACH_KIND: &str = "KILL r0 - t0 k0

@@ -6,8 +6,7 @@ use seg_manager::IndexKind;
 use std::alloc::Global;
 use std::process::Abort;
 use std::test::Fail;
-use support_data::{Limited, equal, is_true};
-use support_runs::{SeqFit, client, created, ready};
+use support_data::{Limited, SeqFit, client, created, equal, is_true, ready};
 
 /// A vector gets a struct, and the field of the struct the numbers 2 and 1 in a loop. The vector has no item 1. Then an object is
 /// made and destroyed.

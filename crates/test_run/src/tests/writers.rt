@@ -5,8 +5,7 @@ use crate::tests::left::leaves;
 use client_vm::Ended;
 use std::process::Abort;
 use std::test::Fail;
-use support_data::{equal, front, is_true};
-use support_runs::{PLAIN, SEQ_FLAT, Setting, empty, run_in, run_on};
+use support_data::{PLAIN, SEQ_FLAT, Setting, empty, equal, front, is_true, run_in, run_on};
 
 /// An output fails after this many bytes. Tests that what was made before stays, and that the saved image is accepted.
 fn output_fails_after(rt: &(impl Abort + AllocGlobal), limit: usize) -> Result<(), Fail> {

@@ -5,13 +5,13 @@ use crate::tests::support::{first_fault, place_of, segment, segment_in, used_reg
 use crate::tests::tiles::are_live;
 use seg_bestfit::BestFit;
 use seg_block::Fit;
-use seg_manager::{Code, Fault, IndexKind, Segment, TypeId};
+use seg_manager::{
+    Code, Fault, IndexKind, Segment, TypeId, all_memory_deallocated, create, free_memory, grow,
+    largest_gap, shrink_to_fit, zero_free_memory,
+};
 use seg_map::{put, remove};
 use seg_seq::assign;
 use seg_seqfit::SeqFit;
-use seg_space::{
-    all_memory_deallocated, create, free_memory, grow, largest_gap, shrink_to_fit, zero_free_memory,
-};
 use seg_value::{Content, Heap, Place, freeze, frozen, set_own, share, take_own};
 use std::alloc::Global;
 use std::test::Fail;

@@ -1,6 +1,6 @@
 use Rattle.std.proofs.Common.{◌≡◌, List, ℕ, sym, ap, ◌∙◌, subst, arith}
 use Rattle.std.proofs.lemmas.Result.{IfOk-at_ok}
-use Rattle.seg_space.specs.NewSegments.{word_of_kind}
+use Rattle.seg_manager.specs.NewSegments.{word_of_kind}
 use Rattle.lezgauri_c.specs.Segments.{IsNewImage}
 use Rattle.lezgauri_c.proofs.creating.lezgauri_raw_create.Goals as goal
 use Rattle.lezgauri_c.proofs.creating.lezgauri_raw_create.Goals.{in-0, in-1, in-0-allocator, in-1-allocator}

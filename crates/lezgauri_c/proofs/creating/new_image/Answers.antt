@@ -2,7 +2,7 @@ use Rattle.std.proofs.Common.{◌≡◌, ℕ, List, sym, ap, ◌∙◌, subst}
 use Rattle.std.proofs.lemmas.Result.{IfOk-at_ok}
 use Rattle.seg_spec.specs.Window.{Placement}
 use Rattle.lezgauri.specs.Stored.{Stored}
-use Rattle.seg_space.specs.NewSegments.{word_of_kind, IsNewSegment}
+use Rattle.seg_manager.specs.NewSegments.{word_of_kind, IsNewSegment}
 use Rattle.lezgauri_c.specs.Segments.{IsNewImage}
 use Rattle.lezgauri_c.proofs.SegmentLaws.{new_image}
 use Rattle.lezgauri_c.proofs.creating.new_image.Goals as goal

@@ -3,7 +3,7 @@ use Rattle.std.proofs.lemmas.Result.{IfOk-at_ok}
 use Rattle.seg_spec.specs.Sound.{Picture}
 use Rattle.seg_spec.specs.Window.{Placement}
 use Rattle.lezgauri.specs.Segments.{IsSegment}
-use Rattle.seg_space.specs.Sizes.{Grows}
+use Rattle.seg_manager.specs.Sizes.{Grows}
 use Rattle.lezgauri_c.proofs.SegmentLaws.{WillGrow, will_grow}
 use Rattle.lezgauri_c.proofs.size.grown_on.Goals as goal
 

@@ -1,3 +1,0 @@
-pub mod Gaps
-pub mod NewSegments
-pub mod Sizes
