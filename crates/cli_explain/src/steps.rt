@@ -257,20 +257,31 @@ fn add_lines(
     }
     for (at, source) in text.lines().enumerate() {
         let line = at.saturating_add(1);
+        let steps = steps.get(line).copied().unwrap_or(0);
         let number = instructions.get(line).copied().unwrap_or(0);
-        if number == 0 {
-            table.push_str("                  ")?;
-        } else {
-            let steps = steps.get(line).copied().unwrap_or(0);
-            write!(table, "{steps:>10}  {number:>6}")?;
-        }
-        write!(table, "  {line:>4}")?;
-        if !source.is_empty() {
-            write!(table, "  {source}")?;
-        }
-        table.push('\n')?;
+        add_line(table, line, steps, number, source)?;
     }
     Ok(())
+}
+
+/// Adds the row of a line with this number of instructions.
+fn add_line(
+    table: &mut String,
+    line: usize,
+    steps: u64,
+    instructions: usize,
+    source: &str,
+) -> Result<(), AllocError> {
+    if instructions == 0 {
+        table.push_str("                  ")?;
+    } else {
+        write!(table, "{steps:>10}  {instructions:>6}")?;
+    }
+    write!(table, "  {line:>4}")?;
+    if !source.is_empty() {
+        write!(table, "  {source}")?;
+    }
+    table.push('\n')
 }
 
 /// Adds a row for each loop that takes a tenth of all steps or more.
