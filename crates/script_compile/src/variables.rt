@@ -103,9 +103,10 @@ fn variable_register(name: &Name) -> Option<Register> {
 
 /// The innermost name of a register's variable.
 fn name_in(names: &Names, register: Register) -> Option<Span> {
-    for name in names.all().iter().rev() {
-        if variable_register(name) == Some(register) {
-            return Some(name.span);
+    let all = names.all();
+    for at in (0..all.len()).rev() {
+        if variable_register(&all[at]) == Some(register) {
+            return Some(all[at].span);
         }
     }
     None
