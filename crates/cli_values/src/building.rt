@@ -113,12 +113,17 @@ impl Building {
     /// Begins an object.
     fn begin(&mut self, line: &[u8]) -> Result<(), Wrong> {
         let mut words = Words::new(line);
-        match words.next() {
-            Some(b"name") => self.begin_named(&mut words),
-            Some(b"unique") => self.begin_unique(&mut words),
-            Some(b"frozen") => self.begin_frozen(&mut words),
-            Some(_) | None => Err(Wrong::Line),
+        let word = words.next().unwrap_or_default();
+        if word == b"name".as_slice() {
+            return self.begin_named(&mut words);
         }
+        if word == b"unique".as_slice() {
+            return self.begin_unique(&mut words);
+        }
+        if word == b"frozen".as_slice() {
+            return self.begin_frozen(&mut words);
+        }
+        Err(Wrong::Line)
     }
 
     /// `name NAME tT`, or `name NAME tT COUNT`.

@@ -143,19 +143,23 @@ fn shape_of(line: &[u8]) -> Option<Shape> {
 }
 
 fn allocator_of(word: &[u8]) -> Option<AllocatorKind> {
-    match word {
-        b"seq" => Some(AllocatorKind::Seq),
-        b"best" => Some(AllocatorKind::Best),
-        _ => None,
+    if word == b"seq".as_slice() {
+        return Some(AllocatorKind::Seq);
     }
+    if word == b"best".as_slice() {
+        return Some(AllocatorKind::Best);
+    }
+    None
 }
 
 fn index_of(word: &[u8]) -> Option<IndexKind> {
-    match word {
-        b"flat" => Some(IndexKind::Flat),
-        b"tree" => Some(IndexKind::Tree),
-        _ => None,
+    if word == b"flat".as_slice() {
+        return Some(IndexKind::Flat);
     }
+    if word == b"tree".as_slice() {
+        return Some(IndexKind::Tree);
+    }
+    None
 }
 
 /// The lines after those of types.
