@@ -22,7 +22,7 @@ use seg_layout::{Fields, Type, TypeId};
 use std::alloc::{AllocError, Allocator};
 
 /// The content of a line of the assembler text.
-#[derive(Debug, Drop)]
+#[derive(Drop)]
 pub enum Item {
     Type(Type),
     Constant(ConstantKind, Bytes),

@@ -26,7 +26,7 @@ fn line_len(text: &[u8]) -> usize
 }
 
 /// The lines of a text.
-#[derive(Debug, Clone, Copy)]
+#[derive(Clone, Copy)]
 pub struct Lines<'a> {
     text: &'a [u8],
 }

@@ -10,7 +10,7 @@ use client_code::{
 };
 
 /// The sections of a client, in order.
-#[derive(Debug, Clone, Copy, PartialEq, Eq)]
+#[derive(Clone, Copy, PartialEq, Eq)]
 enum Section {
     Types,
     Constants,

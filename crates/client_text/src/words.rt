@@ -16,7 +16,7 @@ fn before_space(line: &[u8], is_space: bool) -> usize
 }
 
 /// The words of a line, which are separated by spaces.
-#[derive(Debug, Clone, Copy)]
+#[derive(Clone, Copy)]
 pub struct Words<'a> {
     line: &'a [u8],
 }
