@@ -1,5 +1,7 @@
 -- Bits and marks of a heap's units, as the checker stores them.
+--     Words                      the words of the bits, and how many have room; missing words are 0
 --     has words unit             the unit's bit is set; a word has the bits of 64 units
+--     KeepsBit old new place i   a bit of a word is the same, unless it is the one at a place
 --     spelled live allocated other
 --                                the mark that three bits spell
 --     marks_from mark unit n     the marks of n units, from a unit on
@@ -7,13 +9,20 @@
 --                                the marks of the first n units
 --     AreTold units live allocated other
 --                                a unit with the first bit has the other bits of a mark `Live`
-use Rattle.std.specs.Prelude.{◌≡◌, ◌==◌, ℕ, zero, suc, ◌/◌, ◌%◌, ◌<◌, Bool, true, false, List, [], ◌∷◌, get_or}
+use Rattle.std.specs.Prelude.{◌≡◌, ◌≢◌, ◌==◌, ℕ, zero, suc, ◌/◌, ◌%◌, ◌<◌, Bool, true, false, List, [], ◌∷◌, get_or}
 use Rattle.std.specs.Int.{bit_at}
 use Rattle.seg_check.specs.declared.marks.Mark.{Mark}
 use Rattle.seg_check.specs.declared.marks.Mark.TheVariants.{Inside, Free, Live, Claimed, Named}
 
+pub record Words : Type 0 where
+  pub words : List ℕ
+  pub room : ℕ
+
 abbrev pub has : List ℕ → ℕ → Bool
 has words unit = bit_at (get_or words (unit / 64) 0) (unit % 64) == 1
+
+abbrev pub KeepsBit : (old new place i : ℕ) → Type 0
+KeepsBit old new place i = i ≢ place → bit_at new i ≡ bit_at old i
 
 abbrev pub spelled : Bool → Bool → Bool → Mark
 spelled true allocated other = Live

@@ -11,6 +11,7 @@ use crate::fault::ContentFault;
 use crate::image::TypedImage;
 use crate::walk::{Tree, Visit};
 use seg_cells::{CellAt, Content, KEY, ValueAt};
+use seg_ptr::View;
 use std::alloc::Allocator;
 
 impl TypedImage<'_> {
@@ -33,9 +34,10 @@ impl TypedImage<'_> {
             return Ok(());
         };
         let start = self.claim_entries(claims, cell, content, count)?;
+        let (bytes, entry) = (self.bytes, content.entry);
         let mut keys = Keys::new();
         for index in 0..count {
-            keys.add(self.key(content.entry.value_at(start, index)));
+            keys.add(key(bytes, entry.value_at(start, index)));
         }
         keys.check(cell)
     }
@@ -61,30 +63,28 @@ impl TypedImage<'_> {
             root: cell,
             nodes: count as usize,
         };
-        let owner = self.owner(content);
-        let mut walk = tree.walk(self.bytes);
+        let (bytes, owner) = (self.bytes, self.owner(content));
+        let mut walk = tree.walk(bytes);
         let mut keys = Keys::new();
         while let Some(visit) = walk.next().map_err(ContentFault::BadValue)? {
             match visit {
                 Visit::Enter(pointer) => {
                     owner.claim(claims, pointer, 1)?;
-                    claims.look_ahead(self.bytes, pointer);
+                    claims.look_ahead(bytes, pointer);
                 }
-                Visit::Pass(node) => keys.add(self.key(content.entry.value_at(node, 0))),
+                Visit::Pass(node) => keys.add(key(bytes, content.entry.value_at(node, 0))),
             }
         }
         keys.check(cell)
     }
+}
 
-    /// The key right before the value at a position.
-    #[tactic(auto, unfolding(seg_spec::specs::Bytes::signed))]
-    fn key(&self, value: ValueAt) -> i64
-        ensures { KEY ≤ value → result ≡ signed_long self.now.bytes.bytes.now (value - KEY) }
-    {
-        self.bytes
-            .get64(value.wrapping_sub(KEY) as usize)
-            .cast_signed()
-    }
+/// The key right before the value at a position.
+#[tactic(auto, unfolding(seg_spec::specs::Bytes::signed))]
+fn key(bytes: View, value: ValueAt) -> i64
+    ensures { KEY ≤ value → result ≡ signed_long bytes.entry.bytes.now (value - KEY) }
+{
+    bytes.get64(value.wrapping_sub(KEY) as usize).cast_signed()
 }
 
 /// The keys of a map so far: the last one, and whether they ascend.

@@ -1,8 +1,6 @@
 -- The bits and the marks of units.
-use Rattle.std.proofs.Common.{◌≡◌, ◌≢◌, ℕ, zero, suc, ◌+◌, ◌/◌, ◌%◌, ◌<◌, ◌≤◌, ◌==◌, ◌⊎◌, inl, inr, ⊎_elim, Bool, true, false, ◌∷◌, length, get_or, set, replicate, refl, sym, ap, ◌∙◌, arith}
-use Rattle.std.proofs.lemmas.List.{get_or-replicate, get_or_past, length-replicate}
+use Rattle.std.proofs.Common.{◌≡◌, ◌≢◌, ℕ, zero, suc, ◌+◌, ◌%◌, ◌<◌, ◌≤◌, ◌==◌, Bool, true, false, [], ◌∷◌, length, get_or, set, replicate, refl, sym, ap, ◌∙◌, arith}
 use Rattle.std.proofs.lemmas.Nat.Bits.{bit_at-zero}
-use Rattle.std.specs.Int.{bit_at}
 use Rattle.seg_check.specs.declared.marks.Mark.{Mark}
 use Rattle.seg_check.specs.declared.marks.Mark.TheVariants.{Inside, Free, Live, Claimed, Named}
 use Rattle.seg_check.specs.Bits.{has, spelled, marks_from, live_bit, allocated_bit, other_bit}
@@ -54,20 +52,9 @@ all_inside mark u (suc n) none = (λ j. none u j ∷ all_inside mark (suc u) n n
 
 -- ---- bits in words
 
--- no bit of zeros is set
-pub no_bit : (n u : ℕ) → has (replicate n 0) u ≡ false
-no_bit n u =
-    let long : length (replicate {A = ℕ} n 0) ≡ n = length-replicate {A = ℕ} n 0 in
-    let word : get_or (replicate n 0) (u / 64) 0 ≡ 0 = ⊎_elim
-    (λ low. get_or-replicate n (u / 64) 0 0 low)
-    (λ high. get_or_past (replicate n 0) (u / 64) 0 (omega (arith, long, high)))
-    (split (u / 64) n) in
-    ap (λ w. bit_at w (u % 64) == 1) word ∙ ap (λ b. b == 1) (bit_at-zero (u % 64))
-  where
-    split : (x y : ℕ) → (x < y) ⊎ (y ≤ x)
-    split x zero = inr (omega arith)
-    split zero (suc y) = inl (omega arith)
-    split (suc x) (suc y) = ⊎_elim (λ l. inl (omega arith)) (λ l. inr (omega arith)) (split x y)
+-- no bit of a missing word is set
+pub no_bit : (u : ℕ) → has [] u ≡ false
+no_bit u = ap (λ b. b == 1) (bit_at-zero (u % 64))
 
 -- ---- marks in bits
 

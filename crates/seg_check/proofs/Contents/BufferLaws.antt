@@ -233,7 +233,8 @@ module _ (bytes : List ℕ) (table : Table) where
       → LiesAt bytes table (record { at = at; type = T }) → IsStringOrVector form → CellsPointTo table T form content → n ≡ count_at bytes at
       → RefusesClaim bytes known at (word_of content.tag) (n * content.entry.size) e → LacksAt bytes table e
   items_lack known at T n form content e ready lies has by n_is r =
-      value_lacks bytes table known ready at T (word_of content.tag) (n * content.entry.size) form e lies by.form_is (subst (λ m. IsBlockFor table T form m (word_of content.tag) (n * content.entry.size)) n_is (items_for T n form content has by)) r
+      value_lacks bytes table known ready at T (word_of content.tag) (n * content.entry.size) form e lies by.form_is
+      (subst (λ m. IsBlockFor table T form m (word_of content.tag) (n * content.entry.size)) n_is (items_for T n form content has by)) r
 
   items_null : (at T : ℕ) (form : Form) → LiesAt bytes table (record { at = at; type = T }) → IsStringOrVector form → form_at table T ≡ Some form → target bytes at ≡ None → LacksBlockAt bytes table at
   items_null at T Form.i64 lies has f null = absurd has

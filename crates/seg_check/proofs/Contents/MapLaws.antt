@@ -126,7 +126,14 @@ module _ (bytes : List ℕ) (table : Table) (old : Known) (ready : IsReady bytes
     pub keys_are : AreLow passed → HasKeys keys (keys_of passed)
 
   pub traced_start : (stage : Stage) (turns : ℕ) (keys : Keys) → Follows stage turns [] [] → stage.pointer ≡ at → stage.entered.items ≡ [] → HasKeys keys [] → Traced old stage turns keys
-  traced_start stage turns keys follows pointer_is none has_keys = record { placed = placed_start bytes table old ready tag each at stage pointer_is none; passed = []; entered = []; followed = follows; claimed = claimed_none bytes table old ready T map_words U; keys_are = (λ low. has_keys) }
+  traced_start stage turns keys follows pointer_is none has_keys = record {
+    placed = placed_start bytes table old ready tag each at stage pointer_is none;
+    passed = [];
+    entered = [];
+    followed = follows;
+    claimed = claimed_none bytes table old ready T map_words U;
+    keys_are = (λ low. has_keys);
+  }
 
   module _ (mid : Known) (stage : Stage) (turns : ℕ) (keys : Keys) (t : Traced mid stage turns keys) where
     pub traced_live : HaveLiveHeaders bytes mid.unclaimed

@@ -366,7 +366,8 @@ module _ (bytes : List ℕ) (table : Table) (old : Known) (ready : IsReady bytes
         → IsLinkAt bytes (tag_of Kind.index_node 0) 24 index_cell pointer → (e : ContentFault)
         → RefusesClaim bytes known pointer (word_of content.tag) (1 * content.entry.size) e → LacksAt bytes table e
     index_node_lacks kind now link e r =
-        must_lack bytes table known now pointer (tag_of Kind.index_node 0) 24 e (to_index_node kind link) (refuses_as bytes bytes known pointer (word_of content.tag) (tag_of Kind.index_node 0) (1 * content.entry.size) 24 e refl tag_is one_node r)
+        must_lack bytes table known now pointer (tag_of Kind.index_node 0) 24 e (to_index_node kind link)
+        (refuses_as bytes bytes known pointer (word_of content.tag) (tag_of Kind.index_node 0) (1 * content.entry.size) 24 e refl tag_is one_node r)
 
     pub index_node_can : CanClaim bytes known pointer (tag_of Kind.index_node 0) 24 → CanClaim bytes known pointer (word_of content.tag) (1 * content.entry.size)
     index_node_can c = subst (λ k. CanClaim bytes known pointer (word_of content.tag) k) (sym one_node) (subst (λ t. CanClaim bytes known pointer t 24) (sym tag_is) c)

@@ -281,7 +281,8 @@ module _ (bytes : List ℕ) (table : Table) where
     pub unique_lacks : (e : ContentFault) → RefusesClaim bytes old at (word_of content.tag) (1 * content.entry.size) e → LacksAt bytes table e
     unique_lacks e r =
         let room : 1 * content.entry.size ≡ size table T = (let one : 1 * content.entry.size ≡ content.entry.size = omega arith in one) ∙ is.entry_is.size_is ∙ sym (zero_size T) in
-        must_lack bytes table old ready at (tag_of Kind.object T) (size table T) e (to_unique T small at_is) (refuses_as bytes bytes old at (word_of content.tag) (tag_of Kind.object T) (1 * content.entry.size) (size table T) e refl is.tag_is room r)
+        must_lack bytes table old ready at (tag_of Kind.object T) (size table T) e (to_unique T small at_is)
+        (refuses_as bytes bytes old at (word_of content.tag) (tag_of Kind.object T) (1 * content.entry.size) (size table T) e refl is.tag_is room r)
 
     pub unique_can : (p : ℕ) → target bytes (unique_word T) ≡ Some p → CanResolveRoots bytes table old (from_type T) → CanClaim bytes old at (word_of content.tag) (1 * content.entry.size)
     unique_can p named can =

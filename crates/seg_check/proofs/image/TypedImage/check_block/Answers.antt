@@ -41,7 +41,8 @@ loop-index-preserved g c =
             let e = w.in-Some-value.ensures.held in
             let same = same_some w.in-Some-value.value _ (w.in-Some-value.ensures.value V e) in
             let read = is_read bytes table c.block_of.result entry has c.args.turn c.block_of.ensures ready.is_table turn i w.in-Some-value.value.at V c.loop-index-test.true e (ap (λ (p : Place). p.at) same) in
-            let step = w.in_ok-check_value.ensures.steps (ready_now bytes table old mid _ ready done) read.known read.fits (in_block c.args.turn i turn.reached (each_get (EndsBy table (payload_end bytes (block_of c.args.turn.start))) places i _ turn.fits read.there) read.there) in
+            let step = w.in_ok-check_value.ensures.steps (ready_now bytes table old mid _ ready done) read.known read.fits
+            (in_block c.args.turn i turn.reached (each_get (EndsBy table (payload_end bytes (block_of c.args.turn.start))) places i _ turn.fits read.there) read.there) in
             let all = place_more bytes table old mid places i done w.check_value.new.claims (place_of w.in-Some-value.value) read.there step in
             subst (λ k. Advances bytes table old k (take (i + 1) places)) (sym w.claims-is) all);
       }
@@ -79,7 +80,8 @@ returns-in_err-check_value-clause-steps g c = λ ready turn.
     let e = c.in_err-check_value.field-0.0 in
     let failed = err_from_is_err_and c.from_residual.result c.from_residual.ensures.1 in
     let same : failed.0 ≡ e = failed.2 in
-    let wrong = c.in_err-check_value.ensures.steps (ready_now bytes table old mid _ ready done) read.known read.fits (in_block c.args.turn i turn.reached (each_get (EndsBy table (payload_end bytes (block_of c.args.turn.start))) places i _ turn.fits read.there) read.there) in
+    let wrong = c.in_err-check_value.ensures.steps (ready_now bytes table old mid _ ready done) read.known read.fits
+    (in_block c.args.turn i turn.reached (each_get (EndsBy table (payload_end bytes (block_of c.args.turn.start))) places i _ turn.fits read.there) read.there) in
     steps_refused bytes table old c.check_value.new.claims places c.from_residual.result e _ (failed.1 ∙ ap Err same)
     (place_can bytes table old mid places i done (place_of c.in-Some-value.value) read.there)
     wrong.0 wrong.1

@@ -74,7 +74,8 @@ returns-in_err-claim_named-clause-lacks g c = λ ready index rest opens before.
     let e = c.in_err-claim_named.field-0.0 in
     let failed = err_from_is_err_and c.from_residual.result c.from_residual.ensures.1 in
     let same : failed.0 ≡ e = failed.2 in
-    subst (λ x. IfErr x (LacksAt bytes table)) (sym (failed.1 ∙ ap Err same)) (c.in_err-claim_named.ensures.lacks ready said.object said.count said.name_len (index, opens, entry_there c.args.at index.entries before.before rest before.entries_are))
+    subst (λ x. IfErr x (LacksAt bytes table)) (sym (failed.1 ∙ ap Err same))
+    (c.in_err-claim_named.ensures.lacks ready said.object said.count said.name_len (index, opens, entry_there c.args.at index.entries before.before rest before.entries_are))
 
 pub returns-else-is_before-clause-lacks : goal.returns-else-is_before-clause-lacks
 returns-else-is_before-clause-lacks g c = λ ready index rest opens before.

@@ -6,4 +6,4 @@ use Rattle.seg_check.proofs.marks.Marks.len.Goals as goal
 pub returns : goal.returns
 returns g c =
     let f = c.self.inside in
-    sym (length_marks (mark_in f.live f.allocated f.other) 0 f.units) ∙ ap length c.self.view_is
+    sym (length_marks (mark_in f.live.words f.allocated.words f.other.words) 0 f.units) ∙ ap length c.self.view_is
