@@ -38,8 +38,9 @@ impl TypedImage<'_> {
         let mut keys = Keys::new();
         for index in 0..count {
             keys.add(key(bytes, entry.value_at(start, index)));
+            keys.check(cell)?;
         }
-        keys.check(cell)
+        Ok(())
     }
 
     /// Checks a map: claims its nodes, and then checks the tree and the order of its keys.
