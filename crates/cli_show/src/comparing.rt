@@ -28,15 +28,13 @@ pub fn difference<F: Fit, G: Fit>(
         );
         let my_entries = entries(alloc, one.heap(), &mine, my_object)?;
         let their_entries = entries(alloc, other.heap(), &theirs, their_object)?;
-        let mut pair = Pair {
-            one: Cursor::new(alloc, b"- ", my_object, my_entries.as_slice()),
-            other: Cursor::new(alloc, b"+ ", their_object, their_entries.as_slice()),
-        };
-        pair.compare(&mut lines)?;
+        let mut my_cursor = Cursor::new(alloc, b"- ", my_object, my_entries.as_slice());
+        let mut their_cursor = Cursor::new(alloc, b"+ ", their_object, their_entries.as_slice());
+        compare(&mut lines, &mut my_cursor, &mut their_cursor)?;
         my_next = after(my_next, my_object);
         their_next = after(their_next, their_object);
     }
-    Ok(lines.into_bytes())
+    lines.into_bytes()
 }
 
 /// The index after an object, if there is one.
@@ -101,110 +99,83 @@ impl<'a, 'h> Cursor<'a, 'h> {
         Ok(())
     }
 
-    /// Adds a line with the last value.
-    fn report(&self, lines: &mut IndentedText, entry: Entry) -> Result<(), AllocError> {
-        lines.add(self.sign)?;
-        if let Some(object) = self.object {
-            object.add_name(lines)?;
-            if object.root.count == 1 {
-                add_steps(lines, self.path.get(1..).unwrap_or(&[]))?;
-            } else {
-                add_steps(lines, self.path.as_slice())?;
-            }
-        }
-        lines.add(b": ")?;
-        entry.content.add(lines)?;
-        lines.end()
-    }
-}
-
-/// The values of two objects with the same name, or of one.
-#[derive(Drop)]
-struct Pair<'a, 'h, 'b, 'i> {
-    one: Cursor<'a, 'h>,
-    other: Cursor<'b, 'i>,
-}
-
-impl Pair<'_, '_, '_, '_> {
-    /// Adds the lines of all differences.
-    fn compare(&mut self, lines: &mut IndentedText) -> Result<(), AllocError> {
-        let most = self
-            .one
-            .entries
-            .len()
-            .saturating_add(self.other.entries.len());
-        for _ in 0..most {
-            match (self.one.entry(), self.other.entry()) {
-                (Some(mine), Some(theirs)) => self.compare_entries(lines, mine, theirs)?,
-                (Some(mine), None) => self.take_one(lines, mine)?,
-                (None, Some(theirs)) => self.take_other(lines, theirs)?,
-                (None, None) => break,
-            }
-        }
+    /// Goes to a value, and adds a line with it.
+    fn take(&mut self, lines: &mut IndentedText, entry: Entry) -> Result<(), AllocError> {
+        self.advance(entry)?;
+        self.report(lines, entry);
         Ok(())
     }
 
-    fn compare_entries(
-        &mut self,
-        lines: &mut IndentedText,
-        mine: Entry,
-        theirs: Entry,
-    ) -> Result<(), AllocError> {
-        match mine.order(&theirs) {
-            Ordering::Less => self.take_one(lines, mine),
-            Ordering::Greater => self.take_other(lines, theirs),
-            Ordering::Equal => self.take_both(lines, mine, theirs),
+    /// Adds a line with the last value.
+    fn report(&self, lines: &mut IndentedText, entry: Entry) {
+        lines.add(self.sign);
+        if let Some(object) = self.object {
+            object.add_name(lines);
+            let from = usize::from(object.root.count == 1);
+            add_steps(lines, self.path.get(from..).unwrap_or(&[]));
         }
-    }
-
-    fn take_one(&mut self, lines: &mut IndentedText, mine: Entry) -> Result<(), AllocError> {
-        self.one.advance(mine)?;
-        self.one.report(lines, mine)
-    }
-
-    fn take_other(&mut self, lines: &mut IndentedText, theirs: Entry) -> Result<(), AllocError> {
-        self.other.advance(theirs)?;
-        self.other.report(lines, theirs)
-    }
-
-    fn take_both(
-        &mut self,
-        lines: &mut IndentedText,
-        mine: Entry,
-        theirs: Entry,
-    ) -> Result<(), AllocError> {
-        self.one.advance(mine)?;
-        self.other.advance(theirs)?;
-        if mine.content.is_same(&theirs.content) {
-            return Ok(());
-        }
-        self.one.report(lines, mine)?;
-        self.other.report(lines, theirs)
+        lines.add(b": ");
+        entry.content.add(lines);
+        lines.end();
     }
 }
 
-/// Adds the last steps of a path, after the number of the others.
-fn add_steps(lines: &mut IndentedText, steps: &[Selector]) -> Result<(), AllocError> {
-    let left_out = steps.len().saturating_sub(SHOWN_STEPS);
-    if left_out > 0 {
-        lines.add_number(".(", i64::try_from(left_out).unwrap_or(i64::MAX))?;
-        lines.add(b" parts)")?;
-    }
-    for step in steps.get(left_out..).unwrap_or(&[]) {
-        add_step(lines, *step)?;
+/// Adds the lines of all differences between the values of two objects with the same name, or of one.
+fn compare(
+    lines: &mut IndentedText,
+    one: &mut Cursor,
+    other: &mut Cursor,
+) -> Result<(), AllocError> {
+    let most = one.entries.len().saturating_add(other.entries.len());
+    for _ in 0..most {
+        match (one.entry(), other.entry()) {
+            (Some(mine), Some(theirs)) => compare_entries(lines, one, mine, other, theirs)?,
+            (Some(mine), None) => one.take(lines, mine)?,
+            (None, Some(theirs)) => other.take(lines, theirs)?,
+            (None, None) => break,
+        }
     }
     Ok(())
 }
 
+fn compare_entries(
+    lines: &mut IndentedText,
+    one: &mut Cursor,
+    mine: Entry,
+    other: &mut Cursor,
+    theirs: Entry,
+) -> Result<(), AllocError> {
+    match mine.order(&theirs) {
+        Ordering::Less => one.take(lines, mine),
+        Ordering::Greater => other.take(lines, theirs),
+        Ordering::Equal if mine.content.is_same(&theirs.content) => {
+            one.advance(mine)?;
+            other.advance(theirs)
+        }
+        Ordering::Equal => {
+            one.take(lines, mine)?;
+            other.take(lines, theirs)
+        }
+    }
+}
+
+/// Adds the last steps of a path, after the number of the others.
+fn add_steps(lines: &mut IndentedText, steps: &[Selector]) {
+    let left_out = steps.len().saturating_sub(SHOWN_STEPS);
+    if left_out > 0 {
+        write!(lines, ".({left_out} parts)");
+    }
+    for step in steps.get(left_out..).unwrap_or(&[]) {
+        add_step(lines, *step);
+    }
+}
+
 /// Adds a step as in the path of a value.
-fn add_step(lines: &mut IndentedText, step: Selector) -> Result<(), AllocError> {
+fn add_step(lines: &mut IndentedText, step: Selector) {
     match step {
         Selector::Index(index) => lines.add_index(index),
-        Selector::Key(key) => {
-            lines.add_number("[", key)?;
-            lines.add(b"]")
-        }
-        Selector::Field(index) => lines.add_number(".", i64::from(index)),
+        Selector::Key(key) => write!(lines, "[{key}]"),
+        Selector::Field(index) => write!(lines, ".{index}"),
         Selector::Content => lines.add(b".content"),
     }
 }

@@ -42,9 +42,9 @@ impl<'h> Objects<'h> {
                 objects.add(*root)?;
             }
         }
-        for root in roots.as_slice().iter().rev() {
-            if root.is_frozen() {
-                objects.add_frozen(*root)?;
+        for index in (0..roots.len()).rev() {
+            if roots[index].is_frozen() {
+                objects.add_frozen(roots[index])?;
             }
         }
         Ok(objects)
@@ -91,7 +91,7 @@ impl Object<'_> {
     }
 
     /// Adds the object's name.
-    pub(crate) fn add_name(&self, lines: &mut IndentedText) -> Result<(), AllocError> {
+    pub(crate) fn add_name(&self, lines: &mut IndentedText) {
         match self.root.name {
             RootName::Named(name) => lines.add(name),
             RootName::Unique => lines.add_number("unique t", i64::from(self.root.first.type_id)),
@@ -147,7 +147,7 @@ impl Content<'_> {
     }
 
     /// Adds the content as in the lines of `show`.
-    pub(crate) fn add(&self, lines: &mut IndentedText) -> Result<(), AllocError> {
+    pub(crate) fn add(&self, lines: &mut IndentedText) {
         match *self {
             Content::Number(number) => lines.add_number("", number),
             Content::Text(bytes) => lines.add_text(bytes, Extent::Cut),

@@ -27,34 +27,28 @@ pub fn details<F: Fit>(
     let w = segment.window();
     let counts = block_counts(alloc, w)?;
     let mut lines = IndentedText::new(alloc);
-    add_number(&mut lines, "version ", i64::from(version))?;
-    add_word(&mut lines, "allocator ", allocator_word(w))?;
-    add_word(&mut lines, "index ", index_word(w))?;
-    let types = i64::try_from(segment.types().len()).unwrap_or(0);
-    add_number(&mut lines, "types ", types)?;
-    add_number(&mut lines, "blocks ", i64::from(counts.allocated))?;
-    add_number(&mut lines, "gaps ", i64::from(counts.gaps))?;
-    lines.add_number("fragmentation ", percent(counts))?;
-    lines.add(b"%\n")?;
-    Ok(lines.into_bytes())
-}
-
-fn add_number(lines: &mut IndentedText, word: &str, number: i64) -> Result<(), AllocError> {
-    lines.add_number(word, number)?;
-    lines.end()
-}
-
-fn add_word(lines: &mut IndentedText, word: &str, value: &str) -> Result<(), AllocError> {
-    lines.add(word.as_bytes())?;
-    lines.add(value.as_bytes())?;
-    lines.end()
+    let (allocator, index, types) = (allocator_word(w), index_word(w), segment.types().len());
+    write!(
+        lines,
+        "version {version}\nallocator {allocator}\nindex {index}\ntypes {types}\n"
+    );
+    let BlockCounts {
+        allocated,
+        gaps,
+        ..
+    } = counts;
+    let percent = percent(counts);
+    write!(
+        lines,
+        "blocks {allocated}\ngaps {gaps}\nfragmentation {percent}%\n"
+    );
+    lines.into_bytes()
 }
 
 /// How many percent of the free memory aren't in the largest gap.
-fn percent(counts: BlockCounts) -> i64 {
+fn percent(counts: BlockCounts) -> u64 {
     let outside = counts.free.saturating_sub(counts.largest);
-    let percent = u64::from(outside) * 100 / u64::from(counts.free.max(1));
-    i64::try_from(percent).unwrap_or(100)
+    u64::from(outside) * 100 / u64::from(counts.free.max(1))
 }
 
 fn block_counts(alloc: Global, w: &Window<Global>) -> Result<BlockCounts, AllocError> {

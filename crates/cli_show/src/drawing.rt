@@ -45,15 +45,15 @@ pub fn picture<F: Fit>(alloc: Global, segment: &Segment<F, Global>) -> Result<Ve
     let units = segment.window().len().saturating_sub(HEAP_START) / UNIT;
     let scale = units.div_ceil(COLUMNS * ROWS).max(1);
     let mut lines = IndentedText::new(alloc);
-    add_head(&mut lines, units.div_ceil(scale).div_ceil(COLUMNS))?;
+    add_head(&mut lines, units.div_ceil(scale).div_ceil(COLUMNS));
     if scale == 1 {
         add_blocks(&mut lines, segment)?;
     } else {
         add_cells(&mut lines, segment.heap(), units, scale)?;
     }
-    add_rows(&mut lines, units, scale)?;
-    lines.add(b"</svg>\n")?;
-    Ok(lines.into_bytes())
+    add_rows(&mut lines, units, scale);
+    lines.add(b"</svg>\n");
+    lines.into_bytes()
 }
 
 /// The picture's title, and its colours on a light and on a dark page. The colours of blocks can be told apart by colour-blind
@@ -63,20 +63,22 @@ const HEAD: &str = "<title>The heap of a segment</title>
 ";
 
 /// Begins a picture with this number of rows, with its background.
-fn add_head(lines: &mut IndentedText, rows: u32) -> Result<(), AllocError> {
+fn add_head(lines: &mut IndentedText, rows: u32) {
     let (left, margin) = (LEFT, MARGIN);
     let width = LEFT + COLUMNS * WIDTH + MARGIN;
     let height = rows
         .saturating_mul(HEIGHT)
         .saturating_add(TOP)
         .saturating_add(MARGIN);
-    lines.add(format!(in lines.alloc();
+    write!(
+        lines,
         "<svg xmlns=\"http://www.w3.org/2000/svg\" viewBox=\"-{left} 0 {width} {height}\" font-family=\"sans-serif\" font-size=\"14\">\n"
-    )?.as_bytes())?;
-    lines.add(HEAD.as_bytes())?;
-    lines.add(format!(in lines.alloc();
+    );
+    lines.add(HEAD.as_bytes());
+    write!(
+        lines,
         "<rect class=\"p\" x=\"-{left}\" width=\"{width}\" height=\"{height}\" rx=\"{margin}\"/>\n"
-    )?.as_bytes())
+    );
 }
 
 /// Which purposes occur, in the order of the legend.
@@ -89,35 +91,33 @@ fn note(occurring: &mut Occurring, purpose: Purpose) {
 }
 
 /// Adds the colours of the purposes that occur, and the size of a cell.
-fn add_legend(
-    lines: &mut IndentedText,
-    occurring: &Occurring,
-    scale: u32,
-) -> Result<(), AllocError> {
+fn add_legend(lines: &mut IndentedText, occurring: &Occurring, scale: u32) {
     let mut x = 0u32;
-    for purpose in PURPOSES {
-        if occurring.get(purpose.index()) == Some(&true) {
-            add_key(lines, x, purpose)?;
+    for index in 0..COUNT {
+        if occurring[index] {
+            add_key(lines, x, PURPOSES[index]);
             x = x.saturating_add(90);
         }
     }
     let bytes = scale.saturating_mul(UNIT);
-    lines.add(format!(in lines.alloc();
+    write!(
+        lines,
         "<text x=\"{x}\" y=\"21\">a cell: {bytes} bytes</text>\n"
-    )?.as_bytes())
+    );
 }
 
 /// Adds a purpose's colour and word to the legend.
-fn add_key(lines: &mut IndentedText, x: u32, purpose: Purpose) -> Result<(), AllocError> {
+fn add_key(lines: &mut IndentedText, x: u32, purpose: Purpose) {
     let (class, word) = (purpose.class(), purpose.legend());
     let after = x.saturating_add(20);
-    lines.add(format!(in lines.alloc();
+    write!(
+        lines,
         "<rect class=\"{class}\" x=\"{x}\" y=\"8\" width=\"16\" height=\"16\"/><text x=\"{after}\" y=\"21\">{word}</text>\n"
-    )?.as_bytes())
+    );
 }
 
 /// Adds to each row the position of its first byte.
-fn add_rows(lines: &mut IndentedText, units: u32, scale: u32) -> Result<(), AllocError> {
+fn add_rows(lines: &mut IndentedText, units: u32, scale: u32) {
     for row in 0..units.div_ceil(scale.max(1)).div_ceil(COLUMNS) {
         let y = row.saturating_mul(HEIGHT).saturating_add(TOP + HEIGHT - 3);
         let at = row
@@ -125,11 +125,11 @@ fn add_rows(lines: &mut IndentedText, units: u32, scale: u32) -> Result<(), Allo
             .saturating_mul(scale)
             .saturating_mul(UNIT)
             .saturating_add(HEAP_START);
-        lines.add(format!(in lines.alloc();
+        write!(
+            lines,
             "<text class=\"s\" x=\"-8\" y=\"{y}\" text-anchor=\"end\">{at}</text>\n"
-        )?.as_bytes())?;
+        );
     }
-    Ok(())
 }
 
 /// Adds a shape for each block, if a cell is a unit.
@@ -140,19 +140,19 @@ fn add_blocks<F: Fit>(
     let alloc = lines.alloc();
     let roots = roots(alloc, segment)?;
     let owned = owned_blocks(alloc, segment.heap(), roots.as_slice())?;
-    add_block_legend(lines, owned.as_slice())?;
+    add_block_legend(lines, owned.as_slice());
     for it in &owned {
         add_block(lines, segment.heap(), it, root_of(it, roots.as_slice()))?;
     }
     Ok(())
 }
 
-fn add_block_legend(lines: &mut IndentedText, owned: &[OwnedBlock]) -> Result<(), AllocError> {
+fn add_block_legend(lines: &mut IndentedText, owned: &[OwnedBlock]) {
     let mut occurring = [false; COUNT];
     for it in owned {
         note(&mut occurring, Purpose::of(it));
     }
-    add_legend(lines, &occurring, 1)
+    add_legend(lines, &occurring, 1);
 }
 
 fn add_block<F: Fit>(
@@ -162,36 +162,32 @@ fn add_block<F: Fit>(
     root: Option<&Root>,
 ) -> Result<(), AllocError> {
     let from = it.block.at.saturating_sub(HEAP_START) / UNIT;
-    begin_shape(
-        lines,
-        from,
-        from.saturating_add(it.block.units),
-        Purpose::of(it),
-    )?;
-    add_description(lines, heap, it, root)?;
-    end_shape(lines)
+    let to = from.saturating_add(it.block.units);
+    let description = description(lines.alloc(), heap, it, root)?;
+    begin_shape(lines, from, to, Purpose::of(it));
+    add_escaped(lines, description.as_slice());
+    end_shape(lines);
+    Ok(())
 }
 
-/// Adds a block's position, size, purpose, object, type and value.
-fn add_description<F: Fit>(
-    lines: &mut IndentedText,
+/// A block's position, size, purpose, object, type and value.
+fn description<F: Fit>(
+    alloc: Global,
     heap: &Heap<F, Global>,
     it: &OwnedBlock,
     root: Option<&Root>,
-) -> Result<(), AllocError> {
-    let mut words = IndentedText::new(lines.alloc());
-    words.add_number("byte ", i64::from(it.block.at))?;
-    let bytes = i64::from(it.block.units).saturating_mul(i64::from(UNIT));
-    words.add_number(", ", bytes)?;
-    words.add(b" bytes: ")?;
-    words.add(Purpose::of(it).word().as_bytes())?;
+) -> Result<Vec<u8>, AllocError> {
+    let mut words = IndentedText::new(alloc);
+    let (at, bytes) = (it.block.at, u64::from(it.block.units) * u64::from(UNIT));
+    let purpose = Purpose::of(it).word();
+    write!(words, "byte {at}, {bytes} bytes: {purpose}");
     if let Some(root) = root {
-        add_owner(&mut words, root)?;
+        add_owner(&mut words, root);
     }
     if let Some(tag) = it.tag {
         add_contents(&mut words, heap, it.block.at, tag, root)?;
     }
-    add_escaped(lines, words.into_bytes().as_slice())
+    words.into_bytes()
 }
 
 /// Adds the type and the value in a block with a tag, unless it is a block of the index.
@@ -209,31 +205,31 @@ fn add_contents<F: Fit>(
         Kind::Named | Kind::Object => Some(start),
         Kind::Frozen => Some(start.saturating_add(FROZEN_WORDS)),
     };
-    words.add_number(", type ", i64::from(tag.type_id))?;
+    words.add_number(", type ", i64::from(tag.type_id));
     match (at, root) {
-        (None, _) => Ok(()),
+        (None, _) => {}
         (Some(_), Some(root)) if root.count > 1 && tag.kind == Kind::Named => {
-            words.add_number(", values: ", i64::from(root.count))
+            words.add_number(", values: ", i64::from(root.count));
         }
         (Some(at), _) => {
             let type_id = tag.type_id;
-            words.add(b", value: ")?;
+            words.add(b", value: ");
             let value = value_words(words.alloc(), heap, Place { at, type_id })?;
-            words.add(value.as_slice())
-        }
-    }
-}
-
-/// Adds bytes of a text in XML.
-fn add_escaped(lines: &mut IndentedText, bytes: &[u8]) -> Result<(), AllocError> {
-    for byte in bytes {
-        match *byte {
-            b'<' => lines.add(b"&lt;")?,
-            b'&' => lines.add(b"&amp;")?,
-            other => lines.add(&[other])?,
+            words.add(value.as_slice());
         }
     }
     Ok(())
+}
+
+/// Adds bytes of a text in XML.
+fn add_escaped(lines: &mut IndentedText, bytes: &[u8]) {
+    for byte in bytes {
+        match *byte {
+            b'<' => lines.add(b"&lt;"),
+            b'&' => lines.add(b"&amp;"),
+            other => lines.add(&[other]),
+        }
+    }
 }
 
 /// A cell of the picture of a large heap. All cells have the same number of units.
@@ -256,20 +252,17 @@ fn add_cells<F: Fit>(
     let owned = owned_blocks(alloc, heap, &[])?;
     let count = units.div_ceil(scale.max(1));
     let cells = cells(alloc, owned.as_slice(), count, scale.max(1))?;
-    add_cell_legend(lines, cells.as_slice(), scale)?;
-    add_runs(lines, cells.as_slice(), scale)
+    add_cell_legend(lines, cells.as_slice(), scale);
+    add_runs(lines, cells.as_slice(), scale);
+    Ok(())
 }
 
-fn add_cell_legend(
-    lines: &mut IndentedText,
-    cells: &[PictureCell],
-    scale: u32,
-) -> Result<(), AllocError> {
+fn add_cell_legend(lines: &mut IndentedText, cells: &[PictureCell], scale: u32) {
     let mut occurring = [false; COUNT];
     for cell in cells {
         note(&mut occurring, cell.purpose);
     }
-    add_legend(lines, &occurring, scale)
+    add_legend(lines, &occurring, scale);
 }
 
 /// The cells of the picture, each of `scale` units.
@@ -315,35 +308,28 @@ fn paint(cells: &mut [PictureCell], it: &OwnedBlock, scale: u32)
 }
 
 /// Adds a shape for each run of cells with the same purpose.
-fn add_runs(lines: &mut IndentedText, cells: &[PictureCell], scale: u32) -> Result<(), AllocError> {
+fn add_runs(lines: &mut IndentedText, cells: &[PictureCell], scale: u32) {
     let mut from = 0;
     let mut to = 0u32;
     for cell in cells {
         to = to.saturating_add(1);
         if purpose_at(cells, to) != Some(cell.purpose) {
-            add_run(lines, from, to, cell.purpose, scale)?;
+            add_run(lines, from, to, cell.purpose, scale);
             from = to;
         }
     }
-    Ok(())
 }
 
 fn purpose_at(cells: &[PictureCell], index: u32) -> Option<Purpose> {
     Some(cells.get(index as usize)?.purpose)
 }
 
-fn add_run(
-    lines: &mut IndentedText,
-    from: u32,
-    to: u32,
-    purpose: Purpose,
-    scale: u32,
-) -> Result<(), AllocError> {
-    begin_shape(lines, from, to, purpose)?;
+fn add_run(lines: &mut IndentedText, from: u32, to: u32, purpose: Purpose, scale: u32) {
+    begin_shape(lines, from, to, purpose);
     let (first, last) = (position(from, scale), position(to, scale).saturating_sub(1));
     let word = purpose.legend();
-    lines.add(format!(in lines.alloc(); "bytes {first} to {last}: mostly {word}")?.as_bytes())?;
-    end_shape(lines)
+    write!(lines, "bytes {first} to {last}: mostly {word}");
+    end_shape(lines);
 }
 
 /// The position of the first byte of a cell.
@@ -354,15 +340,10 @@ fn position(cell: u32, scale: u32) -> u32 {
 }
 
 /// Begins the shape of the cells from `from` to before `to`, up to its title.
-fn begin_shape(
-    lines: &mut IndentedText,
-    from: u32,
-    to: u32,
-    purpose: Purpose,
-) -> Result<(), AllocError> {
-    lines.add(b"<path class=\"")?;
-    lines.add(purpose.class().as_bytes())?;
-    lines.add(b"\" d=\"")?;
+fn begin_shape(lines: &mut IndentedText, from: u32, to: u32, purpose: Purpose) {
+    lines.add(b"<path class=\"");
+    lines.add(purpose.class().as_bytes());
+    lines.add(b"\" d=\"");
     let last_row = to.saturating_sub(1) / COLUMNS;
     for row in from / COLUMNS..last_row.saturating_add(1) {
         let begin = row.saturating_mul(COLUMNS);
@@ -376,13 +357,13 @@ fn begin_shape(
                 is_begun: from < begin,
                 continues: to > end,
             },
-        )?;
+        );
     }
-    lines.add(b"\"><title>")
+    lines.add(b"\"><title>");
 }
 
-fn end_shape(lines: &mut IndentedText) -> Result<(), AllocError> {
-    lines.add(b"</title></path>\n")
+fn end_shape(lines: &mut IndentedText) {
+    lines.add(b"</title></path>\n");
 }
 
 /// The cells of a shape in one row, by their columns: from `from` to before `to`.
@@ -396,7 +377,7 @@ struct Reach {
 }
 
 /// Adds the part of a shape in a row. If the shape continues, the part reaches out of the row.
-fn add_row(lines: &mut IndentedText, row: u32, reach: Reach) -> Result<(), AllocError> {
+fn add_row(lines: &mut IndentedText, row: u32, reach: Reach) {
     let before = if reach.is_begun { REACH } else { 0 };
     let after = if reach.continues { REACH } else { 0 };
     let sign = if reach.is_begun { "-" } else { "" };
@@ -414,5 +395,5 @@ fn add_row(lines: &mut IndentedText, row: u32, reach: Reach) -> Result<(), Alloc
         .saturating_add(before)
         .saturating_add(after);
     let height = HEIGHT - 1;
-    lines.add(format!(in lines.alloc(); "M{sign}{x} {y}h{width}v{height}h-{width}z")?.as_bytes())
+    write!(lines, "M{sign}{x} {y}h{width}v{height}h-{width}z");
 }

@@ -16,11 +16,11 @@ use std::alloc::{AllocError, Global};
 pub fn dump<F: Fit>(alloc: Global, segment: &Segment<F, Global>) -> Result<Vec<u8>, AllocError> {
     let roots = roots(alloc, segment)?;
     let mut lines = IndentedText::new(alloc);
-    add_segment(&mut lines, segment.window())?;
-    add_types(&mut lines, segment.types())?;
-    for root in roots.as_slice().iter().rev() {
-        if root.is_frozen() {
-            add_object(&mut lines, segment.heap(), root)?;
+    add_segment(&mut lines, segment.window());
+    add_types(&mut lines, segment.types());
+    for index in (0..roots.len()).rev() {
+        if roots[index].is_frozen() {
+            add_object(&mut lines, segment.heap(), &roots[index])?;
         }
     }
     for root in &roots {
@@ -28,16 +28,12 @@ pub fn dump<F: Fit>(alloc: Global, segment: &Segment<F, Global>) -> Result<Vec<u
             add_object(&mut lines, segment.heap(), root)?;
         }
     }
-    Ok(lines.into_bytes())
+    lines.into_bytes()
 }
 
-fn add_segment(lines: &mut IndentedText, w: &Window<Global>) -> Result<(), AllocError> {
-    lines.add_number("segment ", i64::from(w.len()))?;
-    lines.add(b" ")?;
-    lines.add(allocator_word(w).as_bytes())?;
-    lines.add(b" ")?;
-    lines.add(index_word(w).as_bytes())?;
-    lines.end()
+fn add_segment(lines: &mut IndentedText, w: &Window<Global>) {
+    let (len, allocator, index) = (w.len(), allocator_word(w), index_word(w));
+    write!(lines, "segment {len} {allocator} {index}\n");
 }
 
 /// The word for a segment's allocator, as an argument of `new`.
@@ -64,7 +60,7 @@ fn add_object<F: Fit>(
     heap: &Heap<F, Global>,
     root: &Root,
 ) -> Result<(), AllocError> {
-    add_root(lines, root)?;
+    add_root(lines, root);
     let size = heap.types().size(root.first.type_id);
     for index in 0..root.count {
         add_value(lines, heap, root.value(index, size))?;
@@ -73,20 +69,20 @@ fn add_object<F: Fit>(
 }
 
 /// Adds the line of an object: what it is, its type, and the number of its values if it isn't 1.
-fn add_root(lines: &mut IndentedText, root: &Root) -> Result<(), AllocError> {
+fn add_root(lines: &mut IndentedText, root: &Root) {
     match root.name {
         RootName::Named(name) => {
-            lines.add(b"name ")?;
-            lines.add(name)?;
+            lines.add(b"name ");
+            lines.add(name);
         }
-        RootName::Unique => lines.add(b"unique")?,
-        RootName::Frozen { number, .. } => lines.add_number("frozen ", i64::from(number))?,
+        RootName::Unique => lines.add(b"unique"),
+        RootName::Frozen { number, .. } => lines.add_number("frozen ", i64::from(number)),
     }
-    lines.add_number(" t", i64::from(root.first.type_id))?;
+    lines.add_number(" t", i64::from(root.first.type_id));
     if root.count != 1 {
-        lines.add_number(" ", i64::from(root.count))?;
+        lines.add_number(" ", i64::from(root.count));
     }
-    lines.end()
+    lines.end();
 }
 
 /// Adds a value and all values inside it. Parts come between the line of their value and a line `end`.
@@ -95,8 +91,8 @@ fn add_value<F: Fit>(
     heap: &Heap<F, Global>,
     value: Place,
 ) -> Result<(), AllocError> {
-    lines.indent(1)?;
-    let mut open = Vec::from_slice(lines.alloc(), &[add_content(lines, heap, value)?])?;
+    lines.indent(1);
+    let mut open = Vec::from_slice(lines.alloc(), &[add_content(lines, heap, value)])?;
     let mut walk = ValueWalk::new(lines.alloc(), heap, value, Extent::All)?;
     for _ in 0..most_turns(heap.window().len()) {
         let Some(met) = walk.next(heap)? else {
@@ -104,14 +100,14 @@ fn add_value<F: Fit>(
         };
         match met {
             Met::Part { level, part } => {
-                lines.indent(level.saturating_add(1))?;
-                add_key(lines, part.step)?;
-                open.push(add_content(lines, heap, part.place)?)?;
+                lines.indent(level.saturating_add(1));
+                add_key(lines, part.step);
+                open.push(add_content(lines, heap, part.place))?;
             }
             Met::End { level, .. } => {
-                if open.pop() == Some(true) {
-                    lines.indent(level)?;
-                    lines.add(b"end\n")?;
+                if open.pop().unwrap_or(false) {
+                    lines.indent(level);
+                    lines.add(b"end\n");
                 }
             }
         }
@@ -120,30 +116,22 @@ fn add_value<F: Fit>(
 }
 
 /// Adds the key of a part of a map. Parts of other values need none, since they are in order.
-fn add_key(lines: &mut IndentedText, step: Selector) -> Result<(), AllocError> {
+fn add_key(lines: &mut IndentedText, step: Selector) {
     match step {
-        Selector::Key(key) => {
-            lines.add_number("", key)?;
-            lines.add(b": ")
-        }
-        Selector::Index(_) | Selector::Field(_) | Selector::Content => Ok(()),
+        Selector::Key(key) => write!(lines, "{key}: "),
+        Selector::Index(_) | Selector::Field(_) | Selector::Content => {}
     }
 }
 
 /// Ends the line of a value. Returns whether its parts and `end` follow.
-fn add_content<F: Fit>(
-    lines: &mut IndentedText,
-    heap: &Heap<F, Global>,
-    value: Place,
-) -> Result<bool, AllocError> {
-    let Some(kind) = heap.types().kind(value.type_id) else {
-        // not reached: a sound image has no value of an unknown type
-        lines.end()?;
-        return Ok(false);
+fn add_content<F: Fit>(lines: &mut IndentedText, heap: &Heap<F, Global>, value: Place) -> bool {
+    // a sound image has no value of an unknown type
+    let has_parts = match heap.types().kind(value.type_id) {
+        Some(kind) => add_word(lines, heap, value, kind),
+        None => false,
     };
-    let has_parts = add_word(lines, heap, value, kind)?;
-    lines.end()?;
-    Ok(has_parts)
+    lines.end();
+    has_parts
 }
 
 /// Adds what a value is. Returns whether its parts follow.
@@ -152,41 +140,31 @@ fn add_word<F: Fit>(
     heap: &Heap<F, Global>,
     value: Place,
     kind: Type,
-) -> Result<bool, AllocError> {
+) -> bool {
     match kind {
-        Type::I64 => lines.add_number("", heap.load(value.at))?,
-        Type::Str => add_text(lines, text_of(heap, value))?,
-        Type::Shared(_) => add_shared(lines, heap, value)?,
-        Type::Own(_) if heap.count(value.at) == 0 => lines.add(b"nothing")?,
+        Type::I64 => lines.add_number("", heap.load(value.at)),
+        Type::Str => {
+            lines.add(b"\"");
+            lines.add_spelled(text_of(heap, value));
+            lines.add(b"\"");
+        }
+        Type::Shared(_) => match frozen(heap, value) {
+            Some(shared) => {
+                let number = frozen_number(heap.window(), shared);
+                lines.add_number("frozen ", i64::from(number));
+            }
+            None => lines.add(b"nothing"),
+        },
+        Type::Own(_) if heap.count(value.at) == 0 => lines.add(b"nothing"),
         Type::Own(_)
         | Type::Struct(_)
         | Type::Vec(_)
         | Type::List(_)
         | Type::FlatMap(_)
         | Type::Map(_) => {
-            lines.add(kind_word(kind).as_bytes())?;
-            return Ok(true);
+            lines.add(kind_word(kind).as_bytes());
+            return true;
         }
     }
-    Ok(false)
-}
-
-fn add_text(lines: &mut IndentedText, bytes: &[u8]) -> Result<(), AllocError> {
-    lines.add(b"\"")?;
-    lines.add_spelled(bytes)?;
-    lines.add(b"\"")
-}
-
-fn add_shared<F: Fit>(
-    lines: &mut IndentedText,
-    heap: &Heap<F, Global>,
-    cell: Place,
-) -> Result<(), AllocError> {
-    match frozen(heap, cell) {
-        Some(value) => {
-            let number = frozen_number(heap.window(), value);
-            lines.add_number("frozen ", i64::from(number))
-        }
-        None => lines.add(b"nothing"),
-    }
+    false
 }

@@ -1,5 +1,6 @@
 use crate::extent::Extent;
 use std::alloc::{AllocError, Global};
+use std::fmt::Display;
 
 /// The deepest level with indentation. A deeper line begins with its level instead, so that the length of all lines is
 /// proportional to their contents.
@@ -10,11 +11,12 @@ static DIGITS: [u8; 16] = [
     b'0', b'1', b'2', b'3', b'4', b'5', b'6', b'7', b'8', b'9', b'a', b'b', b'c', b'd', b'e', b'f',
 ];
 
-/// Lines of text, indented by level.
+/// Lines of text, indented by level. It remembers whether memory for it was refused.
 #[derive(Drop)]
 pub(crate) struct IndentedText {
     alloc: Global,
     text: Vec<u8>,
+    is_refused: bool,
 }
 
 impl IndentedText {
@@ -22,6 +24,7 @@ impl IndentedText {
         IndentedText {
             alloc,
             text: Vec::new(alloc),
+            is_refused: false,
         }
     }
 
@@ -30,85 +33,91 @@ impl IndentedText {
     }
 
     /// Begins a line at a level.
-    pub(crate) fn begin(&mut self, level: usize) -> Result<(), AllocError> {
-        self.indent(level)?;
+    pub(crate) fn begin(&mut self, level: usize) {
+        self.indent(level);
         if level > DEEPEST {
-            return self.add(format!(in self.alloc; "({level}) ")?.as_bytes());
+            write!(self, "({level}) ");
         }
-        Ok(())
     }
 
     /// Begins a line that need not tell its level.
-    pub(crate) fn indent(&mut self, level: usize) -> Result<(), AllocError> {
+    pub(crate) fn indent(&mut self, level: usize) {
         for _ in 0..level.min(DEEPEST) {
-            self.add(b"  ")?;
+            self.add(b"  ");
         }
-        Ok(())
     }
 
-    pub(crate) fn add(&mut self, text: &[u8]) -> Result<(), AllocError> {
-        self.text.extend_from_slice(text)
+    pub(crate) fn add(&mut self, text: &[u8]) {
+        self.is_refused |= self.text.extend_from_slice(text).is_err();
+    }
+
+    /// What `write!` calls.
+    pub(crate) fn write_fmt<D: Display + Drop>(&mut self, words: D) {
+        match format!(in self.alloc; "{words}") {
+            Ok(words) => self.add(words.as_bytes()),
+            Err(_) => self.is_refused = true,
+        }
     }
 
     /// Adds a word and a number.
-    pub(crate) fn add_number(&mut self, word: &str, number: i64) -> Result<(), AllocError> {
-        self.add(format!(in self.alloc; "{word}{number}")?.as_bytes())
+    pub(crate) fn add_number(&mut self, word: &str, number: i64) {
+        write!(self, "{word}{number}");
     }
 
     /// Adds an index, from 0.
-    pub(crate) fn add_index(&mut self, index: u32) -> Result<(), AllocError> {
-        self.add(format!(in self.alloc; "[{index}]")?.as_bytes())
+    pub(crate) fn add_index(&mut self, index: u32) {
+        write!(self, "[{index}]");
     }
 
     /// Adds bytes in quotation marks, with escapes for bytes that aren't visible.
-    pub(crate) fn add_quoted(&mut self, bytes: &[u8]) -> Result<(), AllocError> {
-        self.text.push(b'"')?;
+    pub(crate) fn add_quoted(&mut self, bytes: &[u8]) {
+        self.add(b"\"");
         for byte in bytes.escape_ascii() {
-            self.text.push(byte)?;
+            self.add(&[byte]);
         }
-        Ok(self.text.push(b'"')?)
+        self.add(b"\"");
     }
 
     /// Adds a string's bytes in quotation marks, and its length if not all bytes are shown.
-    pub(crate) fn add_text(&mut self, bytes: &[u8], extent: Extent) -> Result<(), AllocError> {
+    pub(crate) fn add_text(&mut self, bytes: &[u8], extent: Extent) {
         let shown = bytes.get(..extent.bytes()).unwrap_or(bytes);
-        self.add_quoted(shown)?;
+        self.add_quoted(shown);
         if shown.len() < bytes.len() {
             let len = i64::try_from(bytes.len()).unwrap_or(i64::MAX);
-            self.add_number(".. of ", len)?;
+            self.add_number(".. of ", len);
         }
-        Ok(())
     }
 
     /// Adds bytes as a client's text spells them: as `\` and two hexadecimal digits if they can't mean themselves.
-    pub(crate) fn add_spelled(&mut self, bytes: &[u8]) -> Result<(), AllocError> {
+    pub(crate) fn add_spelled(&mut self, bytes: &[u8]) {
         for byte in bytes {
-            self.add_byte(*byte)?;
+            self.add_byte(*byte);
         }
-        Ok(())
     }
 
-    fn add_byte(&mut self, byte: u8) -> Result<(), AllocError> {
+    fn add_byte(&mut self, byte: u8) {
         if matches!(byte, b' '..=b'~') && byte != b'\\' {
             return self.add(&[byte]);
         }
         let (high, low) = (byte as usize / 16 % 16, byte as usize % 16);
-        self.add(&[b'\\', DIGITS[high], DIGITS[low]])
+        self.add(&[b'\\', DIGITS[high], DIGITS[low]]);
     }
 
     /// Adds a byte `len` times.
-    pub(crate) fn add_bar(&mut self, len: u32, byte: u8) -> Result<(), AllocError> {
+    pub(crate) fn add_bar(&mut self, len: u32, byte: u8) {
         for _ in 0..len {
-            self.text.push(byte)?;
+            self.add(&[byte]);
         }
-        Ok(())
     }
 
-    pub(crate) fn end(&mut self) -> Result<(), AllocError> {
-        Ok(self.text.push(b'\n')?)
+    pub(crate) fn end(&mut self) {
+        self.add(b"\n");
     }
 
-    pub(crate) fn into_bytes(self) -> Vec<u8> {
-        self.text
+    pub(crate) fn into_bytes(self) -> Result<Vec<u8>, AllocError> {
+        if self.is_refused {
+            return Err(AllocError);
+        }
+        Ok(self.text)
     }
 }

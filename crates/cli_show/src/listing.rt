@@ -22,9 +22,9 @@ pub fn heap_lines<F: Fit>(
     let largest = most_units(owned.as_slice());
     let mut lines = IndentedText::new(alloc);
     for it in &owned {
-        add_block(&mut lines, it, roots.as_slice(), largest)?;
+        add_block(&mut lines, it, roots.as_slice(), largest);
     }
-    Ok(lines.into_bytes())
+    lines.into_bytes()
 }
 
 /// The units of the largest block.
@@ -36,30 +36,19 @@ fn most_units(owned: &[OwnedBlock]) -> u32 {
     most
 }
 
-fn add_block(
-    lines: &mut IndentedText,
-    it: &OwnedBlock,
-    roots: &[Root],
-    largest: u32,
-) -> Result<(), AllocError> {
-    add_extent(lines, it.block)?;
+fn add_block(lines: &mut IndentedText, it: &OwnedBlock, roots: &[Root], largest: u32) {
+    let Block { at, units } = it.block;
+    write!(lines, "{at} {units} ");
     lines.add_bar(
-        bar(it.block.units, largest),
+        bar(units, largest),
         if it.tag.is_some() { b'#' } else { b'.' },
-    )?;
-    lines.add(b" ")?;
-    lines.add(Purpose::of(it).word().as_bytes())?;
+    );
+    lines.add(b" ");
+    lines.add(Purpose::of(it).word().as_bytes());
     if let Some(root) = root_of(it, roots) {
-        add_owner(lines, root)?;
+        add_owner(lines, root);
     }
-    lines.end()
-}
-
-/// Adds a block's position and size.
-fn add_extent(lines: &mut IndentedText, block: Block) -> Result<(), AllocError> {
-    lines.add_number("", i64::from(block.at))?;
-    lines.add_number(" ", i64::from(block.units))?;
-    lines.add(b" ")
+    lines.end();
 }
 
 /// The object that a block belongs to.
@@ -73,8 +62,8 @@ fn bar(units: u32, largest: u32) -> u32 {
     u32::try_from(length).unwrap_or(LONGEST_BAR).max(1)
 }
 
-pub(crate) fn add_owner(lines: &mut IndentedText, root: &Root) -> Result<(), AllocError> {
-    lines.add(b" of ")?;
+pub(crate) fn add_owner(lines: &mut IndentedText, root: &Root) {
+    lines.add(b" of ");
     match root.name {
         RootName::Named(name) => lines.add(name),
         RootName::Unique => lines.add_number("unique t", i64::from(root.first.type_id)),

@@ -22,7 +22,7 @@ pub fn all_objects<F: Fit>(
     for root in &roots {
         shown.add_object(root)?;
     }
-    Ok(shown.lines.into_bytes())
+    shown.lines.into_bytes()
 }
 
 /// The object with a name, or if it doesn't exist, those whose names are like it as a pattern; and each frozen object that a shown
@@ -43,7 +43,8 @@ pub fn some_objects<F: Fit>(
             found = true;
         }
     }
-    Ok(found.then_some(shown.lines.into_bytes()))
+    let lines = shown.lines.into_bytes()?;
+    Ok(found.then_some(lines))
 }
 
 fn is_wanted(root: &Root, name: &[u8], is_exact: bool) -> bool {
@@ -66,7 +67,7 @@ pub fn value_lines<F: Fit>(
     };
     let mut shown = Shown::new(alloc, segment.heap(), detail, &[])?;
     shown.add_alone(value)?;
-    Ok(shown.lines.into_bytes())
+    shown.lines.into_bytes()
 }
 
 /// The bytes of a string.
@@ -86,8 +87,8 @@ pub(crate) fn value_words<F: Fit>(
         typed: false,
     };
     let mut shown = Shown::new(alloc, heap, detail, &[])?;
-    shown.add_content(value)?;
-    Ok(shown.lines.into_bytes())
+    shown.add_content(value);
+    shown.lines.into_bytes()
 }
 
 /// Objects of a heap as lines.
@@ -123,43 +124,42 @@ impl<'h, F: Fit> Shown<'h, F> {
 
     /// Whether a cell in the lines points to the frozen object with its value at this position.
     fn names(&self, value: u32) -> bool {
-        self.named.get((value / UNIT) as usize) == Some(&true)
+        matches!(self.named.get((value / UNIT) as usize), Some(true))
     }
 
     /// Adds an object, with its values and all values inside them.
     fn add_object(&mut self, root: &Root) -> Result<(), AllocError> {
         let size = self.heap.types().size(root.first.type_id);
         for index in 0..root.count {
-            add_root_name(&mut self.lines, root, index)?;
-            self.add_root_type(root.first.type_id)?;
+            add_root_name(&mut self.lines, root, index);
+            self.add_root_type(root.first.type_id);
             self.add_value(root.value(index, size))?;
         }
         Ok(())
     }
 
     /// Adds an object's type in brackets, if types are shown.
-    fn add_root_type(&mut self, t: TypeId) -> Result<(), AllocError> {
-        if !self.detail.typed {
-            return Ok(());
+    fn add_root_type(&mut self, t: TypeId) {
+        if self.detail.typed {
+            self.lines.add(b" (");
+            add_type(&mut self.lines, self.heap.types(), t);
+            self.lines.add(b")");
         }
-        self.lines.add(b" (")?;
-        add_type(&mut self.lines, self.heap.types(), t)?;
-        self.lines.add(b")")
     }
 
     /// Ends the line of a value, and adds the lines of all values inside it.
     fn add_value(&mut self, value: Place) -> Result<(), AllocError> {
-        self.end_line(value)?;
+        self.end_line(value);
         self.add_parts(value)
     }
 
     /// Adds a value without a name, and the lines of all values inside it.
     fn add_alone(&mut self, value: Place) -> Result<(), AllocError> {
         match self.heap.types().kind(value.type_id) {
-            Some(Type::Str) => self.lines.add_spelled(text_of(self.heap, value))?,
-            Some(_) | None => self.add_content(value)?,
+            Some(Type::Str) => self.lines.add_spelled(text_of(self.heap, value)),
+            Some(_) | None => self.add_content(value),
         }
-        self.lines.end()?;
+        self.lines.end();
         self.add_parts(value)
     }
 
@@ -172,57 +172,60 @@ impl<'h, F: Fit> Shown<'h, F> {
             };
             match met {
                 Met::Part { level, part } => {
-                    self.lines.begin(level)?;
-                    add_step(&mut self.lines, part.step)?;
-                    self.end_line(part.place)?;
+                    self.lines.begin(level);
+                    add_step(&mut self.lines, part.step);
+                    self.end_line(part.place);
                 }
-                Met::End { level, rest } => add_rest(&mut self.lines, level, rest)?,
+                Met::End { level, rest } => add_rest(&mut self.lines, level, rest),
             }
         }
         Ok(())
     }
 
     /// Ends a line with a value: a number, a text, or the kind of value and how many parts it has.
-    fn end_line(&mut self, value: Place) -> Result<(), AllocError> {
-        self.lines.add(b": ")?;
-        self.add_content(value)?;
-        self.lines.end()
+    fn end_line(&mut self, value: Place) {
+        self.lines.add(b": ");
+        self.add_content(value);
+        self.lines.end();
     }
 
-    fn add_content(&mut self, value: Place) -> Result<(), AllocError> {
-        let word = match self.heap.types().kind(value.type_id) {
-            Some(Type::I64) => return self.lines.add_number("", self.heap.load(value.at)),
-            Some(Type::Str) => {
-                let bytes = text_of(self.heap, value);
-                return self.lines.add_text(bytes, self.detail.extent);
-            }
-            Some(Type::Vec(_)) => "vector of ",
-            Some(Type::List(_)) => "list of ",
-            Some(Type::FlatMap(_)) => "flat map of ",
-            Some(Type::Map(_)) => "map of ",
-            Some(Type::Own(_)) => {
-                return self
-                    .lines
-                    .add(own_word(self.heap.count(value.at)).as_bytes());
-            }
-            Some(Type::Struct(_)) => return self.lines.add(b"struct"),
-            Some(Type::Shared(_)) => return self.add_shared(value),
-            // not reached: a sound image has no value of an unknown type
-            None => return Ok(()),
+    fn add_content(&mut self, value: Place) {
+        // a sound image has no value of an unknown type
+        let Some(kind) = self.heap.types().kind(value.type_id) else {
+            return;
         };
+        match kind {
+            Type::I64 => self.lines.add_number("", self.heap.load(value.at)),
+            Type::Str => self
+                .lines
+                .add_text(text_of(self.heap, value), self.detail.extent),
+            Type::Vec(_) => self.add_counted("vector of ", value),
+            Type::List(_) => self.add_counted("list of ", value),
+            Type::FlatMap(_) => self.add_counted("flat map of ", value),
+            Type::Map(_) => self.add_counted("map of ", value),
+            Type::Own(_) => self
+                .lines
+                .add(own_word(self.heap.count(value.at)).as_bytes()),
+            Type::Struct(_) => self.lines.add(b"struct"),
+            Type::Shared(_) => self.add_shared(value),
+        }
+    }
+
+    /// Adds a container, with the number of its parts.
+    fn add_counted(&mut self, words: &str, value: Place) {
         self.lines
-            .add_number(word, i64::from(self.heap.count(value.at)))
+            .add_number(words, i64::from(self.heap.count(value.at)));
     }
 
     /// Adds the number of the frozen object that a cell points to.
-    fn add_shared(&mut self, cell: Place) -> Result<(), AllocError> {
+    fn add_shared(&mut self, cell: Place) {
         match frozen(self.heap, cell) {
             Some(value) => {
                 if let Some(named) = self.named.get_mut((value / UNIT) as usize) {
                     *named = true;
                 }
                 let number = frozen_number(self.heap.window(), value);
-                self.lines.add_number("frozen ", i64::from(number))
+                self.lines.add_number("frozen ", i64::from(number));
             }
             None => self.lines.add(b"nothing"),
         }
@@ -230,35 +233,26 @@ impl<'h, F: Fit> Shown<'h, F> {
 }
 
 /// Begins the line of one of an object's values.
-fn add_root_name(lines: &mut IndentedText, root: &Root, index: u16) -> Result<(), AllocError> {
+fn add_root_name(lines: &mut IndentedText, root: &Root, index: u16) {
     match root.name {
-        RootName::Named(name) => lines.add(name)?,
-        RootName::Unique => {
-            lines.add_number("unique t", i64::from(root.first.type_id))?;
-        }
-        RootName::Frozen { count, number } => {
-            lines.add_number("frozen ", i64::from(number))?;
-            lines.add_number(", count ", i64::from(count))?;
-        }
+        RootName::Named(name) => lines.add(name),
+        RootName::Unique => lines.add_number("unique t", i64::from(root.first.type_id)),
+        RootName::Frozen { count, number } => write!(lines, "frozen {number}, count {count}"),
     }
     if root.count > 1 {
-        lines.add_index(u32::from(index))?;
+        lines.add_index(u32::from(index));
     }
-    Ok(())
 }
 
 /// Adds how many parts aren't shown, if there are any.
-fn add_rest(lines: &mut IndentedText, level: usize, rest: u32) -> Result<(), AllocError> {
-    if rest == 0 {
-        return Ok(());
+fn add_rest(lines: &mut IndentedText, level: usize, rest: u32) {
+    if rest > 0 {
+        lines.begin(level);
+        write!(lines, "and {rest} more\n");
     }
-    lines.begin(level)?;
-    lines.add_number("and ", i64::from(rest))?;
-    lines.add(b" more")?;
-    lines.end()
 }
 
-fn add_step(lines: &mut IndentedText, step: Selector) -> Result<(), AllocError> {
+fn add_step(lines: &mut IndentedText, step: Selector) {
     match step {
         Selector::Index(index) => lines.add_index(index),
         Selector::Key(key) => lines.add_number("", key),

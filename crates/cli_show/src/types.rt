@@ -7,29 +7,28 @@ use std::alloc::{AllocError, Global};
 /// A line for each type, in order, as in a client's text.
 pub fn type_lines(alloc: Global, types: &TypeTable) -> Result<Vec<u8>, AllocError> {
     let mut lines = IndentedText::new(alloc);
-    add_types(&mut lines, types)?;
-    Ok(lines.into_bytes())
+    add_types(&mut lines, types);
+    lines.into_bytes()
 }
 
 /// A type in words. Its parts are words if they are `i64` or `str`, and numbers otherwise, so that the length is limited.
 pub fn type_words(alloc: Global, types: &TypeTable, t: TypeId) -> Result<Vec<u8>, AllocError> {
     let mut words = IndentedText::new(alloc);
-    add_type(&mut words, types, t)?;
-    Ok(words.into_bytes())
+    add_type(&mut words, types, t);
+    words.into_bytes()
 }
 
-pub(crate) fn add_types(lines: &mut IndentedText, types: &TypeTable) -> Result<(), AllocError> {
+pub(crate) fn add_types(lines: &mut IndentedText, types: &TypeTable) {
     for t in 0..MAX_TYPES as TypeId {
         if let Some(word) = word_of(types, t) {
-            lines.add(b"type ")?;
-            lines.add(word.as_bytes())?;
+            lines.add(b"type ");
+            lines.add(word.as_bytes());
             if let Some(kind) = types.kind(t) {
-                add_numbers(lines, kind)?;
+                add_numbers(lines, kind);
             }
-            lines.end()?;
+            lines.end();
         }
     }
-    Ok(())
 }
 
 /// The word for a type in a client's text, if the table has it.
@@ -41,9 +40,9 @@ fn word_of(types: &TypeTable, t: TypeId) -> Option<&'static str> {
 }
 
 /// Adds the numbers of a type's parts.
-fn add_numbers(lines: &mut IndentedText, kind: Type) -> Result<(), AllocError> {
+fn add_numbers(lines: &mut IndentedText, kind: Type) {
     match kind {
-        Type::I64 | Type::Str => Ok(()),
+        Type::I64 | Type::Str => {}
         Type::Vec(part) => add_number(lines, part),
         Type::List(part) => add_number(lines, part),
         Type::FlatMap(part) => add_number(lines, part),
@@ -54,36 +53,30 @@ fn add_numbers(lines: &mut IndentedText, kind: Type) -> Result<(), AllocError> {
     }
 }
 
-fn add_field_numbers(lines: &mut IndentedText, fields: &[TypeId]) -> Result<(), AllocError> {
+fn add_field_numbers(lines: &mut IndentedText, fields: &[TypeId]) {
     for field in fields {
-        add_number(lines, *field)?;
+        add_number(lines, *field);
     }
-    Ok(())
 }
 
-fn add_number(lines: &mut IndentedText, t: TypeId) -> Result<(), AllocError> {
-    lines.add_number(" t", i64::from(t))
+fn add_number(lines: &mut IndentedText, t: TypeId) {
+    lines.add_number(" t", i64::from(t));
 }
 
 /// Adds a type in words, if the table has it.
-pub(crate) fn add_type(
-    lines: &mut IndentedText,
-    types: &TypeTable,
-    t: TypeId,
-) -> Result<(), AllocError> {
+pub(crate) fn add_type(lines: &mut IndentedText, types: &TypeTable, t: TypeId) {
     if let Some(word) = word_of(types, t) {
-        lines.add(word.as_bytes())?;
+        lines.add(word.as_bytes());
     }
-    match types.kind(t) {
-        Some(kind) => add_parts(lines, types, kind),
-        None => Ok(()),
+    if let Some(kind) = types.kind(t) {
+        add_parts(lines, types, kind);
     }
 }
 
 /// Adds the parts of a type in words.
-fn add_parts(lines: &mut IndentedText, types: &TypeTable, kind: Type) -> Result<(), AllocError> {
+fn add_parts(lines: &mut IndentedText, types: &TypeTable, kind: Type) {
     match kind {
-        Type::I64 | Type::Str => Ok(()),
+        Type::I64 | Type::Str => {}
         Type::Vec(part) => add_part(lines, types, part),
         Type::List(part) => add_part(lines, types, part),
         Type::FlatMap(part) => add_part(lines, types, part),
@@ -94,18 +87,13 @@ fn add_parts(lines: &mut IndentedText, types: &TypeTable, kind: Type) -> Result<
     }
 }
 
-fn add_field_words(
-    lines: &mut IndentedText,
-    types: &TypeTable,
-    fields: &[TypeId],
-) -> Result<(), AllocError> {
+fn add_field_words(lines: &mut IndentedText, types: &TypeTable, fields: &[TypeId]) {
     for field in fields {
-        add_part(lines, types, *field)?;
+        add_part(lines, types, *field);
     }
-    Ok(())
 }
 
-fn add_part(lines: &mut IndentedText, types: &TypeTable, part: TypeId) -> Result<(), AllocError> {
+fn add_part(lines: &mut IndentedText, types: &TypeTable, part: TypeId) {
     match types.kind(part) {
         Some(Type::I64) => lines.add(b" i64"),
         Some(Type::Str) => lines.add(b" str"),
