@@ -1,5 +1,6 @@
 //! Which rule the header of a block breaks, or the list of free blocks.
 
+use crate::blocks::{block_before, end_of, free_from, len_of};
 use crate::flaw::{Flaw, Right};
 use client_code::{Type, TypeTable};
 use seg_block::{HEAP_START, Header, Kind, LINK, Tag, UNIT};
@@ -103,36 +104,12 @@ fn free_flaw(block: Header, before: Option<u32>) -> Flaw<'static> {
     }
 }
 
-pub(crate) fn len_of(view: View) -> u32 {
-    u32::try_from(view.len()).unwrap_or(u32::MAX)
-}
-
-/// The last block before a position.
-fn block_before(view: View, at: u32) -> Option<u32> {
-    let mut before = None;
-    let mut start = HEAP_START;
-    for _ in 0..len_of(view) / UNIT {
-        if start >= at {
-            break;
-        }
-        before = Some(start);
-        start = end_of(view, start);
-    }
-    before
-}
-
 /// The size of a block in units, or 0 if there is none.
 fn units_at(view: View, block: Option<u32>) -> u32 {
     match block {
         Some(block) => Header::read(view, block).units,
         None => 0,
     }
-}
-
-/// The position after the block at a position.
-pub(crate) fn end_of(view: View, block: u32) -> u32 {
-    let units = Header::read(view, block).units.max(1);
-    block.saturating_add(units.saturating_mul(UNIT))
 }
 
 /// What the pointer at a position in the list of free blocks should be, or the pointer to their tree.
@@ -150,19 +127,4 @@ pub(crate) fn free_list_flaw(view: View, at: u32) -> Flaw<'static> {
         ),
         None => Flaw::Unmet("it should be null, since no free block follows"),
     }
-}
-
-/// The first free block at or after a position, where a block begins.
-pub(crate) fn free_from(view: View, at: u32) -> Option<u32> {
-    let mut start = at;
-    for _ in 0..len_of(view) / UNIT {
-        if start >= len_of(view) {
-            return None;
-        }
-        if !Header::read(view, start).is_live {
-            return Some(start);
-        }
-        start = end_of(view, start);
-    }
-    None
 }

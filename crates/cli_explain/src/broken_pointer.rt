@@ -1,8 +1,8 @@
 //! Which rule a pointer of an image breaks.
 
-use crate::broken_block::len_of;
+use crate::blocks::{block_around, len_of, tag_at};
 use crate::flaw::{Flaw, Right};
-use crate::image::ImageReader;
+use crate::image::Image;
 use client_code::{Type, TypeId, TypeTable};
 use seg_block::{HEAP_START, Kind, Tag, UNIT, block_of, tag_word_in, units_in};
 use seg_cells::{Content, Entry, Place, Shape, count_in};
@@ -28,16 +28,16 @@ impl Wanted {
 }
 
 /// Which rule the pointer at a position breaks.
-pub(crate) fn pointer_flaw(image: &ImageReader, at: u32) -> Flaw<'static> {
-    let view = image.view();
+pub(crate) fn pointer_flaw(image: Image, at: u32) -> Flaw<'static> {
+    let view = image.view;
     let Some(to) = view.target(at as usize) else {
         return null_flaw(image, at);
     };
     let block = block_of(to);
-    let Some(tag) = image.live_tag(block) else {
+    let Some(tag) = live_tag(view, block) else {
         return Flaw::Unmet("it should point to the first payload byte of an allocated block");
     };
-    let wanted = match image.wanted_by(at, to) {
+    let wanted = match wanted_by(image, at, to) {
         Some(wanted) => wanted,
         None => return Flaw::Unmet("it should be null, since the image has no such type"),
     };
@@ -58,85 +58,80 @@ pub(crate) fn pointer_flaw(image: &ImageReader, at: u32) -> Flaw<'static> {
 }
 
 /// What is wrong with a pointer that is null.
-fn null_flaw(image: &ImageReader, at: u32) -> Flaw<'static> {
-    let is_cell = at == header::INDEX as u32 || image.cell_type(at).is_some();
+fn null_flaw(image: Image, at: u32) -> Flaw<'static> {
+    let is_cell = at == header::INDEX as u32 || cell_type(image, at).is_some();
     if !is_cell {
         return Flaw::Unmet("it shouldn't be null");
     }
     Flaw::Number(
         "it shouldn't be null, since the number after it is ",
-        count_in(image.view(), at) as usize,
+        count_in(image.view, at) as usize,
         "",
     )
 }
 
-impl ImageReader {
-    /// The tag of the allocated block that begins at a position.
-    pub(crate) fn live_tag(&self, block: u32) -> Option<Tag> {
-        if self.block_around(block)?.at == block {
-            self.tag(block)
-        } else {
-            None
-        }
+/// The tag of the allocated block that begins at a position.
+fn live_tag(view: View, block: u32) -> Option<Tag> {
+    if block_around(view, block)?.at == block {
+        tag_at(view, block)
+    } else {
+        None
     }
+}
 
-    /// What the pointer at a position should point to. Of a name's object, the block that it points to decides the type.
-    fn wanted_by(&self, at: u32, to: u32) -> Option<Wanted> {
-        if at >= HEAP_START {
-            return self.wanted_in_heap(at, to);
-        }
-        let view = self.view();
-        if at == header::INDEX as u32 {
-            return Some(match IndexKind::read_in(view) {
-                IndexKind::Flat => Wanted::of(Content::index_buffer(), count_in(view, at)),
-                IndexKind::Tree => Wanted::of(Content::index_node(), 1),
-            });
-        }
-        let number = at.saturating_sub(header::UNIQUES as u32) / 4;
-        let type_id = TypeId::try_from(number).ok()?;
-        self.types().kind(type_id)?;
-        Some(Wanted::of(Content::object(self.types(), type_id), 1))
+/// What the pointer at a position should point to. Of a name's object, the block that it points to decides the type.
+fn wanted_by(image: Image, at: u32, to: u32) -> Option<Wanted> {
+    if at >= HEAP_START {
+        return wanted_in_heap(image, at, to);
     }
+    if at == header::INDEX as u32 {
+        return Some(match IndexKind::read_in(image.view) {
+            IndexKind::Flat => Wanted::of(Content::index_buffer(), count_in(image.view, at)),
+            IndexKind::Tree => Wanted::of(Content::index_node(), 1),
+        });
+    }
+    let number = at.saturating_sub(header::UNIQUES as u32) / 4;
+    let type_id = TypeId::try_from(number).ok()?;
+    image.types().kind(type_id)?;
+    Some(Wanted::of(Content::object(image.types(), type_id), 1))
+}
 
-    fn wanted_in_heap(&self, at: u32, to: u32) -> Option<Wanted> {
-        let block = self.block_around(at)?.at;
-        let tag = self.tag(block)?;
-        let is_link = at.saturating_sub(block) < UNIT + NODE_POINTERS;
-        match tag.kind {
-            Kind::IndexNode if is_link => Some(Wanted::of(Content::index_node(), 1)),
-            Kind::IndexBuffer | Kind::IndexNode => Some(self.wanted_named(at, to)),
-            Kind::Node if is_link => Some(Wanted::of(Content::of_block(self.types(), tag)?, 1)),
-            Kind::Node | Kind::Named | Kind::Object | Kind::Buffer | Kind::Frozen => {
-                let type_id = self.cell_type(at)?;
-                wanted_of_cell(self.view(), self.types(), type_id, at)
-            }
+fn wanted_in_heap(image: Image, at: u32, to: u32) -> Option<Wanted> {
+    let block = block_around(image.view, at)?.at;
+    let tag = tag_at(image.view, block)?;
+    let is_link = at.saturating_sub(block) < UNIT + NODE_POINTERS;
+    match tag.kind {
+        Kind::IndexNode if is_link => Some(Wanted::of(Content::index_node(), 1)),
+        Kind::IndexBuffer | Kind::IndexNode => Some(wanted_named(image, at, to)),
+        Kind::Node if is_link => Some(Wanted::of(Content::of_block(image.types(), tag)?, 1)),
+        Kind::Node | Kind::Named | Kind::Object | Kind::Buffer | Kind::Frozen => {
+            wanted_of_cell(image, cell_type(image, at)?, at)
         }
     }
+}
 
-    /// The block of a named object, for the entry at a position.
-    fn wanted_named(&self, at: u32, to: u32) -> Wanted {
-        let view = self.view();
-        let entry = NameEntry::read_in(view, at as usize);
-        let word = tag_word_in(view, block_of(to));
-        let type_id = TypeId::try_from(word / 256).unwrap_or(0);
-        let values = entry.values_len(self.types().size(type_id)) as u64;
-        Wanted {
-            tag: Tag {
-                kind: Kind::Named,
-                type_id,
-            },
-            room: values.saturating_add(u64::from(entry.name_len)),
-        }
+/// The block of a named object, for the entry at a position.
+fn wanted_named(image: Image, at: u32, to: u32) -> Wanted {
+    let entry = NameEntry::read_in(image.view, at as usize);
+    let word = tag_word_in(image.view, block_of(to));
+    let type_id = TypeId::try_from(word / 256).unwrap_or(0);
+    let values = entry.values_len(image.types().size(type_id)) as u64;
+    Wanted {
+        tag: Tag {
+            kind: Kind::Named,
+            type_id,
+        },
+        room: values.saturating_add(u64::from(entry.name_len)),
     }
+}
 
-    /// The type of the cell at a position, if a value has a cell there.
-    pub(crate) fn cell_type(&self, at: u32) -> Option<TypeId> {
-        let block = self.block_around(at)?.at;
-        let entry = entry_of(self.types(), self.tag(block)?)?;
-        let start = block.saturating_add(UNIT);
-        let index = at.checked_sub(start)?.checked_div(entry.size)?;
-        cell_in(self.types(), entry.value(start, index)?, at)
-    }
+/// The type of the cell at a position, if a value has a cell there.
+pub(crate) fn cell_type(image: Image, at: u32) -> Option<TypeId> {
+    let block = block_around(image.view, at)?.at;
+    let entry = entry_of(image.types(), tag_at(image.view, block)?)?;
+    let start = block.saturating_add(UNIT);
+    let index = at.checked_sub(start)?.checked_div(entry.size)?;
+    cell_in(image.types(), entry.value(start, index)?, at)
 }
 
 /// The layout of the entries in a block with a tag.
@@ -179,15 +174,15 @@ fn cell_in(types: &TypeTable, value: Place, at: u32) -> Option<TypeId> {
 }
 
 /// What the cell of a type at a position should point to.
-fn wanted_of_cell(view: View, types: &TypeTable, type_id: TypeId, cell: u32) -> Option<Wanted> {
-    if let Type::Shared(held) = types.kind(type_id)? {
-        return Some(Wanted::of(Content::frozen(types, held), 1));
+fn wanted_of_cell(image: Image, type_id: TypeId, cell: u32) -> Option<Wanted> {
+    if let Type::Shared(held) = image.types().kind(type_id)? {
+        return Some(Wanted::of(Content::frozen(image.types(), held), 1));
     }
-    let content = Content::of(types, type_id)?;
+    let content = Content::of(image.types(), type_id)?;
     Some(Wanted::of(
         content,
         match content.shape {
-            Shape::Buffer => count_in(view, cell),
+            Shape::Buffer => count_in(image.view, cell),
             Shape::Ring | Shape::Tree | Shape::Object => 1,
         },
     ))

@@ -1,10 +1,10 @@
 //! Which rule a value of an image breaks, or an entry of its index.
 
-use crate::broken_block::{end_of, free_from, len_of};
-use crate::broken_pointer::Pointers;
+use crate::blocks::{end_of, free_from, len_of};
+use crate::broken_pointer::{Pointers, cell_type};
 use crate::broken_tree::{Order, Tree, keys_flaw};
 use crate::flaw::{Flaw, Right};
-use crate::image::ImageReader;
+use crate::image::Image;
 use client_code::{Type, TypeId};
 use seg_block::{HEAP_START, UNIT, link_in};
 use seg_cells::{Content, PREVIOUS, count_in, start_in};
@@ -14,11 +14,11 @@ use seg_index::{ENTRY, IndexKind, MAX_NAME, NameEntry, View, header, name_count_
 const NO_RULE: Flaw<'static> = Flaw::Unmet("it breaks a rule of docs/FORMATS.md");
 
 /// Which rule the value at a position breaks.
-pub(crate) fn value_flaw(image: &ImageReader, at: u32) -> Flaw<'static> {
+pub(crate) fn value_flaw(image: Image, at: u32) -> Flaw<'static> {
     if image.is_frozen(at) {
-        return frozen_flaw(image.view(), at);
+        return frozen_flaw(image.view, at);
     }
-    match image.cell_type(at) {
+    match cell_type(image, at) {
         Some(type_id) => cell_flaw(image, type_id, at).unwrap_or(NO_RULE),
         None => NO_RULE,
     }
@@ -40,8 +40,8 @@ fn frozen_flaw(view: View, payload: u32) -> Flaw<'static> {
     )
 }
 
-fn cell_flaw(image: &ImageReader, type_id: TypeId, cell: u32) -> Option<Flaw<'static>> {
-    let view = image.view();
+fn cell_flaw(image: Image, type_id: TypeId, cell: u32) -> Option<Flaw<'static>> {
+    let view = image.view;
     let count = count_in(view, cell);
     match image.types().kind(type_id)? {
         Type::I64 | Type::Str | Type::Vec(_) | Type::Struct(_) => None,
@@ -101,13 +101,8 @@ fn back_flaw(view: View, node: u32, before: u32) -> Option<Flaw<'static>> {
 }
 
 /// The first key of a flat map that isn't above the one before.
-fn order_flaw(
-    image: &ImageReader,
-    type_id: TypeId,
-    cell: u32,
-    count: u32,
-) -> Option<Flaw<'static>> {
-    let view = image.view();
+fn order_flaw(image: Image, type_id: TypeId, cell: u32, count: u32) -> Option<Flaw<'static>> {
+    let view = image.view;
     let size = Content::of(image.types(), type_id)?.entry.size;
     let mut key = start_in(view, cell);
     for _ in 1..count.min(len_of(view) / 8) {
@@ -121,8 +116,8 @@ fn order_flaw(
 }
 
 /// Which rule the index breaks, at its pointer or at an entry.
-pub(crate) fn index_flaw(image: &ImageReader, at: u32) -> Flaw<'_> {
-    let view = image.view();
+pub(crate) fn index_flaw(image: Image<'_>, at: u32) -> Flaw<'_> {
+    let view = image.view;
     if at != header::INDEX as u32 {
         return entry_flaw(image, at);
     }
@@ -138,8 +133,8 @@ pub(crate) fn index_flaw(image: &ImageReader, at: u32) -> Flaw<'_> {
 }
 
 /// Which rule an entry of the index breaks.
-fn entry_flaw(image: &ImageReader, at: u32) -> Flaw<'_> {
-    let entry = NameEntry::read_in(image.view(), at as usize);
+fn entry_flaw(image: Image<'_>, at: u32) -> Flaw<'_> {
+    let entry = NameEntry::read_in(image.view, at as usize);
     if entry.count == 0 {
         return Flaw::should(
             "the number of values, at byte 4 of the entry,",
@@ -159,7 +154,7 @@ fn entry_flaw(image: &ImageReader, at: u32) -> Flaw<'_> {
         let zero = u32::from(entry.zero);
         return Flaw::should("byte 7 of the entry", zero, Right::Exactly(0));
     }
-    name_flaw(entry.name_in(image.view(), image.types()))
+    name_flaw(entry.name_in(image.view, image.types()))
 }
 
 fn name_flaw(name: &[u8]) -> Flaw<'_> {

@@ -5,55 +5,51 @@ use crate::broken_pointer::{owners_flaw, pointer_flaw, unowned_flaw};
 use crate::broken_value::{free_tree_flaw, index_flaw, value_flaw};
 use crate::bytes::word;
 use crate::field::entry_flaw;
-use crate::flaw::Flaw;
-use crate::image::ImageReader;
+use crate::flaw::{Flaw, Right};
+use crate::image::Image;
 use crate::mistaken::no_image;
-use crate::sources::type_bytes;
-use client_code::ENTRY;
+use crate::report::Report;
+use crate::sources::{type_bytes, types_of};
+use client_code::{ENTRY, TypeTable};
 use seg_index::{Fault, MAX_LEN, MIN_LEN, header, is_size};
-use std::alloc::{AllocError, Global};
-use std::fmt::Write;
+use seg_value::Layouts;
 
 /// The position of the version.
 const VERSION: usize = 8;
 
 /// Explains a fault in an image's length or header.
-pub(crate) fn add_bad_header(text: &mut String, image: Option<&[u8]>) -> Result<(), AllocError> {
+pub(crate) fn add_bad_header(report: &mut Report, image: Option<&[u8]>) {
     let Some(image) = image else {
-        return Ok(());
+        return;
     };
-    let len = image.len();
     if !image.starts_with(b"SEGIMAGE") {
-        return text.push_str(no_image(image));
-    }
-    if !u32::try_from(len).is_ok_and(|len| is_size(len)) {
-        return write!(
-            text,
+        report.add(no_image(image));
+    } else if !u32::try_from(image.len()).is_ok_and(|len| is_size(len)) {
+        let len = image.len();
+        write!(
+            report,
             "the image has {len} bytes, but should have {MIN_LEN} to {MAX_LEN}, a multiple of 16\n"
         );
+    } else {
+        add_bad_word(report, image);
     }
-    add_bad_word(text, image)
 }
 
-fn add_bad_word(text: &mut String, image: &[u8]) -> Result<(), AllocError> {
+fn add_bad_word(report: &mut Report, image: &[u8]) {
     let units = image.len() / 16;
     let size = word(image, header::SIZE);
     if size as usize != units && matches!(word(image, VERSION), 1 | 2) {
-        return write!(
-            text,
+        write!(
+            report,
             "the length at byte 12 is {size} units of 16 bytes, but the file has {units}\n"
         );
+        return;
     }
-    match wrong_number(image) {
-        Some((field, number, right)) => write!(
-            text,
-            "{field} is {number}, but should be {right}\n"
-        ),
-        None => {
-            let flaw = zero_flaw(image);
-            write!(text, "{flaw}\n")
-        }
-    }
+    let flaw = match wrong_number(image) {
+        Some(flaw) => flaw,
+        None => zero_flaw(image),
+    };
+    write!(report, "{flaw}\n");
 }
 
 /// The first byte of the header that should be 0 and isn't.
@@ -72,66 +68,56 @@ fn zero_flaw(image: &[u8]) -> Flaw<'static> {
     Flaw::Unmet("the reserved bytes of the header should be 0")
 }
 
-/// The first field of the header with a wrong number: its name, the number, and the numbers that it may have.
-fn wrong_number(image: &[u8]) -> Option<(&'static str, u32, &'static str)> {
+/// The first field of the header with a wrong number.
+fn wrong_number(image: &[u8]) -> Option<Flaw<'static>> {
     let version = word(image, VERSION);
     if !matches!(version, 1 | 2) {
-        return Some(("the version at byte 8", version, "1 or 2"));
+        let right = Right::Words("1 or 2");
+        return Some(Flaw::should("the version at byte 8", version, right));
     }
     let allocator = word(image, header::ALLOCATOR);
     if allocator > 1 {
-        let right = "0 (sequential fit) or 1 (best fit)";
-        return Some(("the allocator at byte 16", allocator, right));
+        let right = Right::Words("0 (sequential fit) or 1 (best fit)");
+        return Some(Flaw::should("the allocator at byte 16", allocator, right));
     }
     let index = word(image, header::INDEX_KIND);
-    (index > 1).then_some(("the index at byte 20", index, "0 (flat) or 1 (a tree)"))
+    let right = Right::Words("0 (flat) or 1 (a tree)");
+    (index > 1).then_some(Flaw::should("the index at byte 20", index, right))
 }
 
 /// Explains a fault in an entry of an image's type table.
-pub(crate) fn add_bad_type(
-    text: &mut String,
-    number: u32,
-    image: Option<&[u8]>,
-) -> Result<(), AllocError> {
+pub(crate) fn add_bad_type(report: &mut Report, number: u32, image: Option<&[u8]>) {
     let Some(image) = image else {
-        return Ok(());
+        return;
     };
-    let at = (number as usize).saturating_mul(ENTRY);
-    let flaw = entry_flaw(
-        type_bytes(image),
-        number as usize,
-        word(image, VERSION) == 2,
-    );
-    let place = header::TYPES.saturating_add(at);
+    let index = number as usize;
+    let place = header::TYPES.saturating_add(index.saturating_mul(ENTRY));
+    let flaw = entry_flaw(type_bytes(image), index, word(image, VERSION) == 2);
     write!(
-        text,
+        report,
         "the entry of type {number} begins at byte {place}\n{flaw}\n"
-    )
+    );
 }
 
-/// Describes the place of a byte in an image, and the rule that is broken there. Returns false if the image can't be read.
-pub(crate) fn add_place(
-    text: &mut String,
-    alloc: Global,
-    fault: Fault,
-    at: u32,
-    image: Option<&[u8]>,
-) -> Result<bool, AllocError> {
-    let Some(image) = image_of(alloc, image)? else {
-        return Ok(false);
+/// Describes the place of a byte in an image, and the rule that is broken there. Returns false if the image is too long to be read.
+pub(crate) fn add_place(report: &mut Report, fault: Fault, at: u32, bytes: &[u8]) -> bool {
+    let layouts = Layouts::of(types_of(bytes).unwrap_or(TypeTable::new()));
+    let Some(image) = Image::new(bytes, &layouts) else {
+        return false;
     };
-    add_location(text, &image, at)?;
+    let location = image.location(at);
+    write!(report, "byte {at} is {location}\n");
     if matches!(fault, Fault::BadFree(_) | Fault::BadPointer(_)) {
-        add_target(text, &image, at)?;
+        add_target(report, image, at);
     }
-    let flaw = place_flaw(&image, fault, at);
-    write!(text, "{flaw}\n")?;
-    Ok(true)
+    let flaw = place_flaw(image, fault, at);
+    write!(report, "{flaw}\n");
+    true
 }
 
 /// Which rule is broken at a byte.
-fn place_flaw(image: &ImageReader, fault: Fault, at: u32) -> Flaw<'_> {
-    let view = image.view();
+fn place_flaw(image: Image<'_>, fault: Fault, at: u32) -> Flaw<'_> {
+    let view = image.view;
     match fault {
         Fault::BadBlock(_) => block_flaw(view, image.types(), at),
         Fault::BadFree(_) if view.get32(header::ALLOCATOR) == 1 => free_tree_flaw(view),
@@ -144,24 +130,15 @@ fn place_flaw(image: &ImageReader, fault: Fault, at: u32) -> Flaw<'_> {
     }
 }
 
-fn add_location(text: &mut String, image: &ImageReader, at: u32) -> Result<(), AllocError> {
-    let location = image.location(at);
-    write!(text, "byte {at} is {location}\n")
-}
-
-fn add_target(text: &mut String, image: &ImageReader, at: u32) -> Result<(), AllocError> {
-    match image.target(at) {
-        None => text.push_str("the pointer there is null\n"),
+fn add_target(report: &mut Report, image: Image, at: u32) {
+    match image.view.target(at as usize) {
+        None => report.add("the pointer there is null\n"),
         Some(to) => {
             let location = image.location(to);
-            write!(text, "the pointer there points to byte {to}, {location}\n")
+            write!(
+                report,
+                "the pointer there points to byte {to}, {location}\n"
+            );
         }
-    }
-}
-
-fn image_of(alloc: Global, image: Option<&[u8]>) -> Result<Option<ImageReader>, AllocError> {
-    match image {
-        Some(bytes) => ImageReader::new(alloc, bytes),
-        None => Ok(None),
     }
 }

@@ -1,13 +1,13 @@
 use crate::damage::{add_bad_header, add_bad_type, add_place};
 use crate::field::add_bad_code;
 use crate::rejection::{Rejected, add_bound, add_rejection};
+use crate::report::Report;
 use crate::sources::Sources;
 use crate::text::add_bad_line;
 use crate::types::TypeWords;
 use client_code::{Type, TypeId, TypeTable};
 use seg_index::{Fault, MAX_LEN, MIN_LEN};
 use std::alloc::{AllocError, Global};
-use std::fmt::Write;
 
 /// Explains a fault in one or more lines, each ended by `\n`: what the fault is, where it is, and what would be right. `client`
 /// is the number of the client that has the fault, from 0, if there are several clients.
@@ -17,24 +17,27 @@ pub fn explain(
     client: Option<usize>,
     sources: &Sources,
 ) -> Result<Vec<u8>, AllocError> {
-    let mut text = String::new(alloc);
+    let mut report = Report::new(alloc);
     if let Some(number) = client {
-        write!(text, "the fault is in client {number}, counted from 0\n")?;
+        write!(report, "the fault is in client {number}, counted from 0\n");
     }
-    if !add_image_place(&mut text, alloc, fault, sources.image)? {
-        add_places(&mut text, alloc, fault, client, sources)?;
-        add_rule(&mut text, fault)?;
+    if !add_image_place(&mut report, fault, sources.image) {
+        add_places(&mut report, alloc, fault, client, sources)?;
+        add_rule(&mut report, fault);
     }
-    Ok(text.into_bytes())
+    Ok(report.into_text()?.into_bytes())
 }
 
 /// Adds the place of a fault in an image, and the rule that is broken there. Returns false if there is none, or no image.
-fn add_image_place(
-    text: &mut String,
-    alloc: Global,
-    fault: Fault,
-    image: Option<&[u8]>,
-) -> Result<bool, AllocError> {
+fn add_image_place(report: &mut Report, fault: Fault, image: Option<&[u8]>) -> bool {
+    match (place_of(fault), image) {
+        (Some(at), Some(image)) => add_place(report, fault, at, image),
+        (Some(_) | None, _) => false,
+    }
+}
+
+/// The position of a fault in an image.
+fn place_of(fault: Fault) -> Option<u32> {
     match fault {
         Fault::BadBlock(at)
         | Fault::BadIndex(at)
@@ -42,14 +45,14 @@ fn add_image_place(
         | Fault::Unowned(at)
         | Fault::BadValue(at)
         | Fault::BadFree(at)
-        | Fault::BadPointer(at) => add_place(text, alloc, fault, at, image),
-        _ => Ok(false),
+        | Fault::BadPointer(at) => Some(at),
+        _ => None,
     }
 }
 
 /// Adds the place of another fault.
 fn add_places(
-    text: &mut String,
+    report: &mut Report,
     alloc: Global,
     fault: Fault,
     client: Option<usize>,
@@ -67,12 +70,12 @@ fn add_places(
         | Fault::Unowned(_)
         | Fault::BadValue(_)
         | Fault::BadFree(_)
-        | Fault::BadPointer(_) => Ok(()),
-        Fault::BadHeader => add_bad_header(text, sources.image),
-        Fault::BadType(number) => add_bad_type(text, number, sources.image),
-        Fault::TypeMismatch(number) => add_mismatch(text, number, client, sources),
-        Fault::BadCode(at) => add_bad_code(text, sources.file(client), at),
-        Fault::BadLine(number) => add_bad_line(text, sources.text, number),
+        | Fault::BadPointer(_) => {}
+        Fault::BadHeader => add_bad_header(report, sources.image),
+        Fault::BadType(number) => add_bad_type(report, number, sources.image),
+        Fault::TypeMismatch(number) => add_mismatch(report, number, client, sources),
+        Fault::BadCode(at) => add_bad_code(report, sources.file(client), at),
+        Fault::BadLine(number) => add_bad_line(report, sources.text, number),
         Fault::Rejected {
             instruction,
             reason,
@@ -81,40 +84,33 @@ fn add_places(
                 number: instruction,
                 reason,
             };
-            add_rejection(text, alloc, sources.client(client), sources.text, rejected)
+            return add_rejection(
+                report,
+                alloc,
+                sources.client(client),
+                sources.text,
+                rejected,
+            );
         }
-        Fault::TooLong => add_bound(text, alloc, sources.client(client)),
-    }
-}
-
-/// Describes a type entry of the client, and the image's type with that number.
-fn add_mismatch(
-    text: &mut String,
-    number: u32,
-    client: Option<usize>,
-    sources: &Sources,
-) -> Result<(), AllocError> {
-    if let Some(client) = sources.client(client) {
-        add_kind(text, number, "in the client", &client.types())?;
-    }
-    if let Some(types) = sources.types_before(client) {
-        add_kind(text, number, "in the image", &types)?;
+        Fault::TooLong => return add_bound(report, alloc, sources.client(client)),
     }
     Ok(())
 }
 
-fn add_kind(
-    text: &mut String,
-    number: u32,
-    place: &str,
-    types: &TypeTable,
-) -> Result<(), AllocError> {
-    match kind_of(number, types) {
-        Some(kind) => {
-            let kind = TypeWords(kind);
-            write!(text, "type {number} is {kind} {place}\n")
-        }
-        None => Ok(()),
+/// Describes a type entry of the client, and the image's type with that number.
+fn add_mismatch(report: &mut Report, number: u32, client: Option<usize>, sources: &Sources) {
+    if let Some(client) = sources.client(client) {
+        add_kind(report, number, "in the client", &client.types());
+    }
+    if let Some(types) = sources.types_before(client) {
+        add_kind(report, number, "in the image", &types);
+    }
+}
+
+fn add_kind(report: &mut Report, number: u32, place: &str, types: &TypeTable) {
+    if let Some(kind) = kind_of(number, types) {
+        let kind = TypeWords(kind);
+        write!(report, "type {number} is {kind} {place}\n");
     }
 }
 
@@ -123,23 +119,23 @@ fn kind_of(number: u32, types: &TypeTable) -> Option<Type> {
 }
 
 /// Adds the rule that is broken, for a fault that has one rule.
-fn add_rule(text: &mut String, fault: Fault) -> Result<(), AllocError> {
+fn add_rule(report: &mut Report, fault: Fault) {
     match fault {
         Fault::Misplaced => write!(
-            text,
+            report,
             "the base should be a multiple of 16, and the segment should end within the room, \
 at {MAX_LEN} bytes at most\n"
         ),
         Fault::BadSize => write!(
-            text,
+            report,
             "a segment has {MIN_LEN} to {MAX_LEN} bytes, a multiple of 16\n"
         ),
         Fault::BadMove(number) => write!(
-            text,
+            report,
             "move {number}, counted from 0, should come at step 1 or later, and later than the move before; \
 its base should be a multiple of 16 from which the segment ends within its room\n"
         ),
-        told => text.push_str(rule(told)),
+        told => report.add(rule(told)),
     }
 }
 

@@ -5,11 +5,10 @@ use crate::flaw::{Flaw, Right, is_name};
 use crate::mistaken::no_client;
 use crate::opened::Spot;
 use crate::outline::{Draft, MOST_CONSTANTS, Outline};
+use crate::report::Report;
 use crate::rule;
 use client_code::{ConstantKind, ENTRY, Instruction, MAX_TYPES, MOST_INSTRUCTIONS, Operation};
-use std::alloc::AllocError;
 use std::fmt;
-use std::fmt::Write;
 
 /// The position of the first type entry.
 const TYPES_AT: usize = 20;
@@ -54,21 +53,17 @@ struct File<'a> {
 }
 
 /// Explains which field of a client file begins at a byte, and what is wrong with it.
-pub(crate) fn add_bad_code(
-    text: &mut String,
-    bytes: Option<&[u8]>,
-    at: u32,
-) -> Result<(), AllocError> {
+pub(crate) fn add_bad_code(report: &mut Report, bytes: Option<&[u8]>, at: u32) {
     let Some(bytes) = bytes else {
-        return Ok(());
+        return;
     };
     let file = File { bytes };
     let field = file.field(at as usize);
     let flaw = file.flaw(field, at as usize);
     write!(
-        text,
+        report,
         "byte {at} of the client file begins {field}\n{flaw}\n"
-    )
+    );
 }
 
 impl<'a> File<'a> {

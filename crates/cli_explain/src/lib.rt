@@ -1,6 +1,7 @@
 //! Explanations of refusals in words: what the fault is, where it is, and what would be right.
 #![tactic(auto)]
 
+mod blocks;
 mod broken_block;
 mod broken_pointer;
 mod broken_tree;
@@ -21,6 +22,7 @@ mod quoted;
 mod registers;
 mod rejection;
 mod replay;
+mod report;
 mod rule;
 mod slip;
 mod sources;

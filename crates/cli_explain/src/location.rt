@@ -56,19 +56,31 @@ impl Location<'_> {
         if place >= header::TYPES {
             return Location::TypeEntry(at.saturating_sub(header::TYPES as u32) / ENTRY as u32);
         }
-        Location::Header(match at {
-            0..=7 => "the first 8 bytes",
-            8..=11 => "the version",
-            12..=15 => "the length in units of 16 bytes",
-            16..=19 => "the allocator's number",
-            20..=23 => "the index's number",
-            24..=27 => "the pointer to the free blocks",
-            28..=31 => "the next number of a frozen object",
-            32..=35 => "the pointer to the index",
-            36..=39 => "the number of names",
-            _ => "the reserved bytes",
-        })
+        Location::Header(field_at(at))
     }
+}
+
+/// The fields of the header, each with the position after it.
+const FIELDS: [(u32, &str); 9] = [
+    (8, "the first 8 bytes"),
+    (12, "the version"),
+    (16, "the length in units of 16 bytes"),
+    (20, "the allocator's number"),
+    (24, "the index's number"),
+    (28, "the pointer to the free blocks"),
+    (32, "the next number of a frozen object"),
+    (36, "the pointer to the index"),
+    (40, "the number of names"),
+];
+
+/// The field of the header at a position.
+fn field_at(at: u32) -> &'static str {
+    for (end, field) in &FIELDS {
+        if at < *end {
+            return field;
+        }
+    }
+    "the reserved bytes"
 }
 
 impl fmt::Display for Location<'_> {

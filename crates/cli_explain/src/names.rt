@@ -15,11 +15,11 @@ impl<'a> Names<'a> {
         Names { client }
     }
 
-    pub(crate) fn types(&self) -> TypeTable {
+    pub(crate) fn types(self) -> TypeTable {
         self.client.types()
     }
 
-    pub(crate) fn type_of(&self, type_id: TypeId) -> NumberedType {
+    pub(crate) fn type_of(self, type_id: TypeId) -> NumberedType {
         NumberedType {
             number: type_id,
             kind: self.types().kind(type_id),
@@ -27,24 +27,24 @@ impl<'a> Names<'a> {
     }
 
     /// A description of what a register contains.
-    pub(crate) fn present(&self, holds: PackedRegister) -> Known<'a> {
+    pub(crate) fn present(self, holds: PackedRegister) -> Known<'a> {
         self.known(holds, Tense::Present)
     }
 
     /// A description of what a register contained.
-    pub(crate) fn past(&self, held: PackedRegister) -> Known<'a> {
+    pub(crate) fn past(self, held: PackedRegister) -> Known<'a> {
         self.known(held, Tense::Past)
     }
 
-    fn known(&self, holds: PackedRegister, tense: Tense) -> Known<'a> {
+    fn known(self, holds: PackedRegister, tense: Tense) -> Known<'a> {
         Known {
-            names: *self,
+            names: self,
             holds: holds.unpacked(),
             tense,
         }
     }
 
-    fn whole(&self, class: Class) -> Whole<'a> {
+    fn whole(self, class: Class) -> Whole<'a> {
         match class {
             Class::Name(constant) => self.named(constant),
             Class::Unique(type_id) => Whole::Unique(self.type_of(type_id)),
@@ -52,7 +52,7 @@ impl<'a> Names<'a> {
         }
     }
 
-    fn named(&self, constant: u8) -> Whole<'a> {
+    fn named(self, constant: u8) -> Whole<'a> {
         let constants = self.client.constants();
         let Constant { kind, bytes } = constants
             .get(usize::from(constant))
@@ -80,7 +80,7 @@ pub(crate) struct Known<'a> {
 }
 
 impl Known<'_> {
-    fn verbs(&self) -> Verbs {
+    fn verbs(self) -> Verbs {
         match self.tense {
             Tense::Present => Verbs {
                 be: "is",

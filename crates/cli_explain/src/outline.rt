@@ -81,15 +81,14 @@ impl Outline {
             return Some(Flaw::Unmet(rule::VERSION));
         }
         let Draft { a, b, c, .. } = instruction;
-        for (letter, operand, n) in [('a', row.a, a), ('b', row.b, b), ('c', row.c, c)] {
-            if !is_operand(operand, n) {
-                return Some(Flaw::Operand(letter, operand_words(operand)));
-            }
+        let wrong = operand_flaw('a', row.a, a)
+            .or(operand_flaw('b', row.b, b))
+            .or(operand_flaw('c', row.c, c))
+            .or(self.number_flaw(row.number, instruction));
+        match wrong {
+            Some(flaw) => Some(flaw),
+            None => self.place_flaw(instruction.operation, spot),
         }
-        if let Some(flaw) = self.number_flaw(row.number, instruction) {
-            return Some(flaw);
-        }
-        self.place_flaw(instruction.operation, spot)
     }
 
     /// What is wrong with the place of an instruction.
@@ -150,6 +149,11 @@ impl Outline {
 
 /// The explanation if an instruction refers to a constant that doesn't exist.
 const ABSENT: &str = " doesn't exist";
+
+/// What is wrong with an operand.
+fn operand_flaw(letter: char, operand: Operand, n: u8) -> Option<Flaw<'static>> {
+    (!is_operand(operand, n)).then_some(Flaw::Operand(letter, operand_words(operand)))
+}
 
 fn is_operand(operand: Operand, n: u8) -> bool {
     match operand {

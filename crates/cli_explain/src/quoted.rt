@@ -28,6 +28,18 @@ fn write_byte<W: fmt::Write>(f: &mut fmt::Formatter<W>, byte: u8) -> fmt::Result
         b' '..=b'~' => f.write_char(char::from(byte)),
         b'\t' => f.write_str("\\t"),
         b'\r' => f.write_str("\\r"),
-        _ => write!(f, "\\x{byte:02x}"),
+        _ => {
+            f.write_str("\\x")?;
+            f.write_char(hex_digit(byte / 16))?;
+            f.write_char(hex_digit(byte % 16))
+        }
     }
+}
+
+/// The hexadecimal digit for a number below 16.
+fn hex_digit(number: u8) -> char {
+    char::from(match number {
+        0..=9 => b'0' + number,
+        _ => (b'a' - 10).saturating_add(number),
+    })
 }

@@ -34,7 +34,7 @@ pub(crate) struct Demand {
 
 impl Demand {
     /// What register b or c should contain: the first of them that doesn't contain what the instruction needs.
-    pub(crate) fn unmet(names: &Names, registers: &Registers, instruction: Instruction) -> Demand {
+    pub(crate) fn unmet(names: Names, registers: &Registers, instruction: Instruction) -> Demand {
         let row = instruction.operation.row();
         let content = held_content(names, registers.packed(instruction.b));
         let (register, need) = if is_first_met(names, registers, instruction, content) {
@@ -53,7 +53,7 @@ impl Demand {
 }
 
 /// The type of the value in the own or shared cell that a register refers to.
-fn held_content(names: &Names, holds: PackedRegister) -> Option<TypeId> {
+fn held_content(names: Names, holds: PackedRegister) -> Option<TypeId> {
     let (_, to) = holds.referred()?;
     match names.types().kind(to)? {
         Type::Own(content) | Type::Shared(content) => Some(content),
@@ -69,7 +69,7 @@ fn held_content(names: &Names, holds: PackedRegister) -> Option<TypeId> {
 
 /// Whether register b is right: whether the instruction would pass with some register c.
 fn is_first_met(
-    names: &Names,
+    names: Names,
     registers: &Registers,
     instruction: Instruction,
     content: Option<TypeId>,
@@ -97,7 +97,10 @@ fn is_first_met(
         None => instruction,
     };
     let types = names.types();
-    Rule::new(&types, &right, tried).apply().err() != Some(Reason::WrongOperand)
+    !matches!(
+        Rule::new(&types, &right, tried).apply(),
+        Err(Reason::WrongOperand)
+    )
 }
 
 impl fmt::Display for Demand {

@@ -4,13 +4,13 @@ use crate::names::Names;
 use crate::quoted::Quoted;
 use crate::registers::{Demand, used};
 use crate::replay::{Change, How, OpenPart, Replay};
+use crate::report::Report;
 use crate::text::{instruction_lines, line};
 use client_code::{Client, Gives, Instruction, REGISTERS, Role};
 use client_text::print;
 use client_verify::{Class, MOST_STEPS, PackedRegister, Reason, Registers};
 use std::alloc::{AllocError, Global};
 use std::fmt;
-use std::fmt::Write;
 
 /// The instruction with which a register's contents ended.
 #[derive(Clone, Copy)]
@@ -46,16 +46,44 @@ fn advice(change: Change) -> &'static str {
     }
 }
 
+/// The text of a client, and the line of each instruction in it.
+#[derive(Clone, Copy)]
+struct Listing<'a> {
+    text: &'a [u8],
+    lines: &'a [usize],
+}
+
+impl<'a> Listing<'a> {
+    /// The number of the instruction's line in the text.
+    fn line_of(self, number: u32) -> u32 {
+        let line = self.lines.get(number as usize).copied().unwrap_or(0);
+        u32::try_from(line).unwrap_or(u32::MAX)
+    }
+
+    fn shown(self, number: u32) -> Quoted<'a> {
+        Quoted(
+            line(self.text, self.line_of(number))
+                .unwrap_or(&[])
+                .trim_ascii_start(),
+        )
+    }
+
+    /// The instruction with which a change came.
+    fn ended(self, change: Change) -> Ended<'a> {
+        Ended {
+            how: change.how,
+            shown: self.shown(change.by),
+            line: self.line_of(change.by),
+        }
+    }
+}
+
 /// A client up to the instruction that is refused.
-#[derive(Drop)]
+#[derive(Clone, Copy)]
 struct Refusal<'a> {
-    replay: Replay,
+    replay: &'a Replay,
     names: Names<'a>,
-    /// The client's text, as the user wrote it or as it is printed.
-    text: Vec<u8>,
-    /// The line of each instruction in it.
-    lines: Vec<usize>,
-    is_printed: bool,
+    listing: Listing<'a>,
 }
 
 /// An instruction that is refused, by its number, and the reason.
@@ -67,7 +95,7 @@ pub(crate) struct Rejected {
 
 /// Explains why an instruction is refused. `source` is the client's text, if the user wrote one.
 pub(crate) fn add_rejection(
-    text: &mut String,
+    report: &mut Report,
     alloc: Global,
     client: Option<Client>,
     source: Option<&[u8]>,
@@ -76,18 +104,56 @@ pub(crate) fn add_rejection(
     let Some(client) = client else {
         return Ok(());
     };
-    let Rejected { number, reason } = rejected;
-    let refusal = Refusal::of(alloc, client, source, number)?;
-    refusal.add_head(text, number)?;
-    if let Some(instruction) = client.instruction(number) {
-        refusal.add_registers(text, instruction, reason)?;
+    match source {
+        Some(source) => add_refusal(report, alloc, client, source, "", rejected),
+        None => {
+            let printed = printed(alloc, &client)?;
+            let whose = " of the text that `segtool print` writes";
+            add_refusal(report, alloc, client, printed.as_slice(), whose, rejected)
+        }
     }
-    text.push_str(rule(reason))
+}
+
+/// Explains why an instruction is refused, by the client's text. `whose` tells which text it is.
+fn add_refusal(
+    report: &mut Report,
+    alloc: Global,
+    client: Client,
+    text: &[u8],
+    whose: &str,
+    rejected: Rejected,
+) -> Result<(), AllocError> {
+    let Rejected { number, reason } = rejected;
+    let replay = Replay::until(alloc, &client, number)?;
+    let lines = instruction_lines(alloc, text)?;
+    let listing = Listing {
+        text,
+        lines: lines.as_slice(),
+    };
+    add_head(report, listing, whose, number);
+    if let Some(instruction) = client.instruction(number) {
+        let refusal = Refusal {
+            replay: &replay,
+            names: Names::of(client),
+            listing,
+        };
+        refusal.add_registers(report, instruction, reason);
+    }
+    report.add(rule(reason));
+    Ok(())
+}
+
+fn add_head(report: &mut Report, listing: Listing, whose: &str, number: u32) {
+    let (line, shown) = (listing.line_of(number), listing.shown(number));
+    write!(
+        report,
+        "instruction {number}, line {line}{whose}: {shown}\n"
+    );
 }
 
 /// Adds the bound of a client's steps.
 pub(crate) fn add_bound(
-    text: &mut String,
+    report: &mut Report,
     alloc: Global,
     client: Option<Client>,
 ) -> Result<(), AllocError> {
@@ -96,29 +162,17 @@ pub(crate) fn add_bound(
     };
     let replay = Replay::until(alloc, &client, client.instruction_count())?;
     match replay.steps() {
-        u64::MAX => write!(
-            text,
-            "the client could take more than 2^64 steps; at most {MOST_STEPS} are allowed\n"
-        ),
-        steps => write!(
-            text,
-            "the client could take {steps} steps; at most {MOST_STEPS} are allowed\n"
-        ),
+        u64::MAX => report.add("the client could take more than 2^64 steps"),
+        steps => write!(report, "the client could take {steps} steps"),
     }
+    write!(report, "; at most {MOST_STEPS} are allowed\n");
+    Ok(())
 }
 
 fn printed(alloc: Global, client: &Client) -> Result<Vec<u8>, AllocError> {
     match print(alloc, client) {
         Ok(text) => Ok(text),
         Err(_) => Err(AllocError),
-    }
-}
-
-/// The text that the user wrote for a client, or else the printed one.
-fn text_of(alloc: Global, client: &Client, source: Option<&[u8]>) -> Result<Vec<u8>, AllocError> {
-    match source {
-        Some(source) => Vec::from_slice(alloc, source),
-        None => printed(alloc, client),
     }
 }
 
@@ -135,146 +189,79 @@ fn rule(reason: u8) -> &'static str {
     }
 }
 
-impl<'a> Refusal<'a> {
-    fn of(
-        alloc: Global,
-        client: Client<'a>,
-        source: Option<&[u8]>,
-        number: u32,
-    ) -> Result<Refusal<'a>, AllocError> {
-        let replay = Replay::until(alloc, &client, number)?;
-        let text = text_of(alloc, &client, source)?;
-        let lines = instruction_lines(alloc, text.as_slice())?;
-        Ok(Refusal {
-            replay,
-            names: Names::of(client),
-            text,
-            lines,
-            is_printed: source.is_none(),
-        })
-    }
-
-    /// The number of the instruction's line in the text.
-    fn line_of(&self, number: u32) -> u32 {
-        let line = self.lines.get(number as usize).copied().unwrap_or(0);
-        u32::try_from(line).unwrap_or(u32::MAX)
-    }
-
-    fn shown(&self, number: u32) -> Quoted<'_> {
-        Quoted(
-            line(self.text.as_slice(), self.line_of(number))
-                .unwrap_or(&[])
-                .trim_ascii_start(),
-        )
-    }
-
-    fn add_head(&self, text: &mut String, number: u32) -> Result<(), AllocError> {
-        let (at, shown) = (self.line_of(number), self.shown(number));
-        let whose = if self.is_printed {
-            " of the text that `segtool print` writes"
-        } else {
-            ""
-        };
-        write!(text, "instruction {number}, line {at}{whose}: {shown}\n")
-    }
-
-    fn registers(&self) -> &Registers {
-        self.replay.registers()
+impl Refusal<'_> {
+    /// What is known of a register.
+    fn packed(self, register: u8) -> PackedRegister {
+        self.replay.registers().packed(register)
     }
 
     /// Describes the registers for which the instruction is refused.
-    fn add_registers(
-        &self,
-        text: &mut String,
-        instruction: Instruction,
-        reason: u8,
-    ) -> Result<(), AllocError> {
+    fn add_registers(self, report: &mut Report, instruction: Instruction, reason: u8) {
         match instruction.operation.row().role {
-            Role::End => self.add_end(text),
+            Role::End => self.add_end(report),
             Role::Plain | Role::Opener | Role::Loop | Role::Else => {
-                self.add_operands(text, instruction, reason)
+                self.add_operands(report, instruction, reason);
             }
         }
     }
 
-    fn add_operands(
-        &self,
-        text: &mut String,
-        instruction: Instruction,
-        reason: u8,
-    ) -> Result<(), AllocError> {
-        for register in used(instruction).into_iter().flatten() {
-            self.add_known(text, register)?;
+    fn add_operands(self, report: &mut Report, instruction: Instruction, reason: u8) {
+        let [b, c] = used(instruction);
+        if let Some(register) = b {
+            self.add_known(report, register);
+        }
+        if let Some(register) = c {
+            self.add_known(report, register);
         }
         if reason == Reason::WrongOperand.number() {
-            return self.add_demand(text, instruction);
+            self.add_demand(report, instruction);
+        } else if reason == Reason::OwnerLost.number() {
+            self.add_lost(report, instruction);
         }
-        if reason == Reason::OwnerLost.number() {
-            return self.add_lost(text, instruction);
-        }
-        Ok(())
     }
 
     /// Describes what is known of a register. If nothing is known, describes what it contained before.
-    fn add_known(&self, text: &mut String, register: u8) -> Result<(), AllocError> {
-        let holds = self.registers().packed(register);
+    fn add_known(self, report: &mut Report, register: u8) {
+        let holds = self.packed(register);
         let known = self.names.present(holds);
-        write!(text, "r{register} {known}\n")?;
-        match self.replay.change(register) {
-            Some(change) if holds == PackedRegister::undefined() => {
-                self.add_ended(text, register, change)
+        write!(report, "r{register} {known}\n");
+        if holds == PackedRegister::undefined() {
+            if let Some(change) = self.replay.change(register) {
+                self.add_ended(report, register, change);
             }
-            Some(_) | None => Ok(()),
         }
     }
 
-    fn add_ended(&self, text: &mut String, register: u8, change: Change) -> Result<(), AllocError> {
-        let (past, ended) = (self.names.past(change.held), self.ended(change));
-        write!(text, "r{register} {past}, until {ended}")?;
+    fn add_ended(self, report: &mut Report, register: u8, change: Change) {
+        let (past, ended) = (self.names.past(change.held), self.listing.ended(change));
+        write!(report, "r{register} {past}, until {ended}");
         match change.how {
-            How::Changed => self.add_again(text, change.held)?,
-            How::AfterSuccess(otherwise) => self.add_otherwise(text, register, otherwise)?,
-            How::AfterElse => text.push_str("; the success part leaves nothing in it")?,
-            How::AfterBody => text.push_str(
-                "; after a loop a register contains what it did before",
-            )?,
+            How::Changed => self.add_again(report, change.held),
+            How::AfterSuccess(otherwise) => self.add_otherwise(report, register, otherwise),
+            How::AfterElse => report.add("; the success part leaves nothing in it"),
+            How::AfterBody => report.add("; after a loop a register contains what it did before"),
         }
-        text.push_str(advice(change))
+        report.add(advice(change));
     }
 
     /// Adds what the else part left in a register, if it left something.
-    fn add_otherwise(
-        &self,
-        text: &mut String,
-        register: u8,
-        otherwise: PackedRegister,
-    ) -> Result<(), AllocError> {
-        if otherwise == PackedRegister::undefined() {
-            return Ok(());
-        }
-        let past = self.names.past(otherwise);
-        write!(text, "; at the end of the else part r{register} {past}")
-    }
-
-    /// The instruction with which a change came.
-    fn ended(&self, change: Change) -> Ended<'_> {
-        Ended {
-            how: change.how,
-            shown: self.shown(change.by),
-            line: self.line_of(change.by),
+    fn add_otherwise(self, report: &mut Report, register: u8, otherwise: PackedRegister) {
+        if otherwise != PackedRegister::undefined() {
+            let past = self.names.past(otherwise);
+            write!(report, "; at the end of the else part r{register} {past}");
         }
     }
 
-    fn add_demand(&self, text: &mut String, instruction: Instruction) -> Result<(), AllocError> {
-        let demand = Demand::unmet(&self.names, self.registers(), instruction);
+    fn add_demand(self, report: &mut Report, instruction: Instruction) {
+        let demand = Demand::unmet(self.names, self.replay.registers(), instruction);
         let register = demand.register;
-        write!(text, "r{register} should {demand}\n")
+        write!(report, "r{register} should {demand}\n");
     }
 
     /// Describes the register that would be overwritten, and the object that it owns.
-    fn add_lost(&self, text: &mut String, instruction: Instruction) -> Result<(), AllocError> {
+    fn add_lost(self, report: &mut Report, instruction: Instruction) {
         let register = match instruction.operation.row().gives {
-            Gives::Forgotten => return Ok(()),
+            Gives::Forgotten => return,
             Gives::Nothing
             | Gives::Int
             | Gives::Copy
@@ -285,89 +272,70 @@ impl<'a> Refusal<'a> {
             | Gives::Content
             | Gives::Part => instruction.a,
         };
-        let owned = self.names.present(self.registers().packed(register));
-        write!(text, "r{register} {owned}, and would be overwritten\n")
+        let owned = self.names.present(self.packed(register));
+        write!(report, "r{register} {owned}, and would be overwritten\n");
     }
 
     /// Describes the registers that are wrong at an `END`.
-    fn add_end(&self, text: &mut String) -> Result<(), AllocError> {
-        for register in 0..REGISTERS {
-            match self.replay.innermost() {
-                Some(OpenPart::Body(before)) => self.add_kept(
-                    text,
-                    register,
-                    before.packed(register),
-                )?,
-                Some(OpenPart::Else(success)) => {
-                    self.add_joined(text, register, success.packed(register))?;
+    fn add_end(self, report: &mut Report) {
+        match self.replay.innermost() {
+            Some(OpenPart::Body(before)) => {
+                for register in 0..REGISTERS {
+                    self.add_kept(report, register, before.packed(register));
                 }
-                Some(OpenPart::Success) | None => {}
             }
+            Some(OpenPart::Else(success)) => {
+                for register in 0..REGISTERS {
+                    self.add_joined(report, register, success.packed(register));
+                }
+            }
+            Some(OpenPart::Success) | None => {}
         }
-        Ok(())
     }
 
     /// Describes a register that a loop's body may not leave like this.
-    fn add_kept(
-        &self,
-        text: &mut String,
-        register: u8,
-        before: PackedRegister,
-    ) -> Result<(), AllocError> {
-        let after = self.registers().packed(register);
+    fn add_kept(self, report: &mut Report, register: u8, before: PackedRegister) {
+        let after = self.packed(register);
         if before.keeps(after).is_ok() {
-            return Ok(());
+            return;
         }
         let (past, present) = (self.names.past(before), self.names.present(after));
         write!(
-            text,
+            report,
             "r{register} {past} before the loop, and {present} at the end of its body"
-        )?;
-        self.add_since(text, register)?;
-        text.push('\n')
-    }
-
-    /// Adds the last instruction that changed a register.
-    fn add_since(&self, text: &mut String, register: u8) -> Result<(), AllocError> {
-        match self.replay.change(register) {
-            Some(change) => {
-                let ended = self.ended(change);
-                write!(text, ", since {ended}")
-            }
-            None => Ok(()),
+        );
+        if let Some(change) = self.replay.change(register) {
+            let ended = self.listing.ended(change);
+            write!(report, ", since {ended}");
         }
+        report.add("\n");
     }
 
     /// Describes a register that owns an object at the end of only one of two parts.
-    fn add_joined(
-        &self,
-        text: &mut String,
-        register: u8,
-        success: PackedRegister,
-    ) -> Result<(), AllocError> {
-        let otherwise = self.registers().packed(register);
+    fn add_joined(self, report: &mut Report, register: u8, success: PackedRegister) {
+        let otherwise = self.packed(register);
         let (_, is_lost) = success.joined(otherwise);
-        if !is_lost {
-            return Ok(());
+        if is_lost {
+            let (first, second) = (self.names.present(success), self.names.present(otherwise));
+            write!(
+                report,
+                "r{register} {first} at the end of the success part, and {second} at the end of the else part\n"
+            );
         }
-        let (first, second) = (self.names.present(success), self.names.present(otherwise));
-        write!(
-            text,
-            "r{register} {first} at the end of the success part, and {second} at the end of the else part\n"
-        )
     }
 
     /// Explains how to get a reference again that has ended.
-    fn add_again(&self, text: &mut String, held: PackedRegister) -> Result<(), AllocError> {
-        match held.referred().map(|(class, _)| class.unpacked()) {
-            Some(Class::Name(_)) => text.push_str("; get it again, by FIND or from its container"),
-            Some(Class::Unique(_)) => {
-                text.push_str("; get it again, by UFIND or from its container")
+    fn add_again(self, report: &mut Report, held: PackedRegister) {
+        let Some((class, _)) = held.referred() else {
+            return;
+        };
+        match class.unpacked() {
+            Class::Name(_) => report.add("; get it again, by FIND or from its container"),
+            Class::Unique(_) => report.add("; get it again, by UFIND or from its container"),
+            Class::Register(owner) if self.packed(owner).is_owner() => {
+                write!(report, "; get it again, by REF r{owner}");
             }
-            Some(Class::Register(owner)) if self.registers().packed(owner).is_owner() => {
-                write!(text, "; get it again, by REF r{owner}")
-            }
-            Some(Class::Register(_)) | None => Ok(()),
+            Class::Register(_) => {}
         }
     }
 }

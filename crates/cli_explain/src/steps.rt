@@ -1,8 +1,8 @@
 //! What a program's lines and loops cost: how many steps each takes in a run with the most steps.
 
+use crate::report::Report;
 use client_code::{Client, Instruction, Role};
 use std::alloc::{AllocError, Global};
-use std::fmt::Write;
 use std::str;
 
 /// The parts of an opener or a loop.
@@ -228,90 +228,98 @@ pub fn explain_steps(
     bound: u64,
 ) -> Result<String, AllocError> {
     let costs = Costs::new(alloc, client)?;
-    let mut table = String::new(alloc);
-    table.push_str("     steps  instr.  line\n")?;
-    add_lines(&mut table, alloc, program, &costs)?;
-    add_loops(&mut table, program.lines, client, &costs, bound)?;
-    Ok(table)
+    let mut table = Report::new(alloc);
+    table.add("     steps  instr.  line\n");
+    add_lines(&mut table, alloc, program, costs.steps.as_slice())?;
+    add_loops(&mut table, program.lines, client, &costs, bound);
+    table.into_text()
+}
+
+/// The steps of a line of the program, and the number of its instructions.
+#[derive(Clone, Copy)]
+struct LineCost {
+    steps: u64,
+    instructions: usize,
+}
+
+impl LineCost {
+    const NONE: LineCost = LineCost {
+        steps: 0,
+        instructions: 0,
+    };
 }
 
 /// Adds a row for each line of the program.
 fn add_lines(
-    table: &mut String,
+    table: &mut Report,
     alloc: Global,
     program: ProgramLines,
-    costs: &Costs,
+    steps: &[u64],
 ) -> Result<(), AllocError> {
     let text = str::from_utf8(program.text).unwrap_or("");
     let count = text.lines().count().saturating_add(1);
-    let mut steps = Vec::from_elem(alloc, 0u64, count)?;
-    let mut instructions = Vec::from_elem(alloc, 0usize, count)?;
-    for (at, cost) in costs.steps.as_slice().iter().enumerate() {
-        let Some(line) = program.lines.get(at) else {
-            break;
-        };
-        if let (Some(sum), Some(number)) = (steps.get_mut(*line), instructions.get_mut(*line)) {
-            *sum = sum.saturating_add(*cost);
-            *number = number.saturating_add(1);
-        }
-    }
+    let mut costs = Vec::from_elem(alloc, LineCost::NONE, count)?;
+    add_up(costs.as_mut_slice(), program.lines, steps);
     for (at, source) in text.lines().enumerate() {
         let line = at.saturating_add(1);
-        let steps = steps.get(line).copied().unwrap_or(0);
-        let number = instructions.get(line).copied().unwrap_or(0);
-        add_line(table, line, steps, number, source)?;
+        let cost = costs.get(line).copied().unwrap_or(LineCost::NONE);
+        add_line(table, line, cost, source);
     }
     Ok(())
 }
 
-/// Adds the row of a line with this number of instructions.
-fn add_line(
-    table: &mut String,
-    line: usize,
-    steps: u64,
-    instructions: usize,
-    source: &str,
-) -> Result<(), AllocError> {
+/// Adds the steps of each instruction to its line.
+fn add_up(costs: &mut [LineCost], lines: &[usize], steps: &[u64]) {
+    for at in 0..lines.len().min(steps.len()) {
+        if let Some(cost) = costs.get_mut(lines[at]) {
+            cost.steps = cost.steps.saturating_add(steps[at]);
+            cost.instructions = cost.instructions.saturating_add(1);
+        }
+    }
+}
+
+/// Adds the row of a line.
+fn add_line(table: &mut Report, line: usize, cost: LineCost, source: &str) {
+    let LineCost {
+        steps,
+        instructions,
+    } = cost;
     if instructions == 0 {
-        table.push_str("                  ")?;
+        table.add("                  ");
     } else {
-        write!(table, "{steps:>10}  {instructions:>6}")?;
+        write!(table, "{steps:>10}  {instructions:>6}");
     }
-    write!(table, "  {line:>4}")?;
+    write!(table, "  {line:>4}");
     if !source.is_empty() {
-        write!(table, "  {source}")?;
+        write!(table, "  {source}");
     }
-    table.push('\n')
+    table.add("\n");
 }
 
 /// Adds a row for each loop that takes a tenth of all steps or more.
-fn add_loops(
-    table: &mut String,
-    lines: &[usize],
-    client: &Client,
-    costs: &Costs,
-    bound: u64,
-) -> Result<(), AllocError> {
+fn add_loops(table: &mut Report, lines: &[usize], client: &Client, costs: &Costs, bound: u64) {
     for at in 0..client.instruction_count() {
         let Some(instruction) = client.instruction(at) else {
             break;
         };
-        if instruction.operation.row().role != Role::Loop {
-            continue;
-        }
-        let at = at as usize;
-        let parts = costs.parts(at);
-        let Parts { last, turns, .. } = parts;
-        // each time the loop takes a step to begin, and one for each turn
-        let runs = costs.steps(at).checked_div(turns.saturating_add(1));
-        let steps = runs.unwrap_or(0).saturating_mul(parts.steps());
-        if steps > 0 && steps >= bound / 10 {
-            let line = lines.get(at).copied().unwrap_or(0);
-            writeln!(
-                table,
-                "the loop of line {line}: {turns} turns of {last} steps, {steps} of {bound} steps"
-            )?;
+        if instruction.operation.row().role == Role::Loop {
+            let line = lines.get(at as usize).copied().unwrap_or(0);
+            add_loop(table, line, costs, at as usize, bound);
         }
     }
-    Ok(())
+}
+
+/// Adds a row for the loop of this instruction and this line, if it takes a tenth of all steps or more.
+fn add_loop(table: &mut Report, line: usize, costs: &Costs, at: usize, bound: u64) {
+    let parts = costs.parts(at);
+    let Parts { last, turns, .. } = parts;
+    // each time the loop takes a step to begin, and one for each turn
+    let runs = costs.steps(at).checked_div(turns.saturating_add(1));
+    let steps = runs.unwrap_or(0).saturating_mul(parts.steps());
+    if steps > 0 && steps >= bound / 10 {
+        write!(
+            table,
+            "the loop of line {line}: {turns} turns of {last} steps, {steps} of {bound} steps\n"
+        );
+    }
 }

@@ -6,13 +6,13 @@ use crate::opened::Spot;
 use crate::outline::{Draft, MOST_CONSTANTS, Outline, operand_words};
 use crate::pieces::Pieces;
 use crate::quoted::Quoted;
+use crate::report::Report;
 use crate::rule;
 use crate::slip::slip;
 use client_code::{
     ConstantKind, Instruction, MAX_TYPES, MOST_INSTRUCTIONS, Number, Operand, Operation,
 };
 use std::alloc::{AllocError, Global};
-use std::fmt::Write;
 use std::str;
 
 /// The line with this number, counted from 1, without its end.
@@ -42,26 +42,22 @@ pub fn instruction_lines(alloc: Global, text: &[u8]) -> Result<Vec<usize>, Alloc
 }
 
 /// Quotes the line with this number, counted from 1, and explains what is wrong with it.
-pub(crate) fn add_bad_line(
-    text: &mut String,
-    source: Option<&[u8]>,
-    number: u32,
-) -> Result<(), AllocError> {
+pub(crate) fn add_bad_line(report: &mut Report, source: Option<&[u8]>, number: u32) {
     let Some(source) = source else {
-        return Ok(());
+        return;
     };
     if let Some(other) = no_text(source) {
-        return text.push_str(other);
+        return report.add(other);
     }
     match meant_line(source, number) {
         Some(shown) => {
             let flaw = line_flaw(source, number, shown);
             let shown = Quoted(shown);
-            write!(text, "line {number}: {shown}\n{flaw}\n")
+            write!(report, "line {number}: {shown}\n{flaw}\n");
         }
         None => {
             let flaw = unclosed(source, number);
-            write!(text, "line {number}, after the last line: {flaw}\n")
+            write!(report, "line {number}, after the last line: {flaw}\n");
         }
     }
 }
@@ -234,9 +230,9 @@ const TYPES: [(&str, usize); 9] = [
 ];
 
 fn most_parts(word: &[u8]) -> Option<usize> {
-    for (name, most) in TYPES {
+    for (name, most) in &TYPES {
         if name.as_bytes() == word {
-            return Some(most);
+            return Some(*most);
         }
     }
     None
@@ -359,8 +355,15 @@ fn instruction_flaw<'a>(
         Ok(instruction) => outline
             .flaw(instruction, spot)
             .unwrap_or(Flaw::Unmet(rule::ANY)),
-        Err(flaw) => flaw,
+        Err(Misread { word, wrong }) => Flaw::Word(word, wrong),
     }
+}
+
+/// A word that isn't what it should be, and what is wrong with it.
+#[derive(Clone, Copy)]
+struct Misread<'a> {
+    word: &'a [u8],
+    wrong: &'static str,
 }
 
 /// How many words follow an operation.
@@ -389,7 +392,10 @@ fn number_count(number: Number) -> usize {
     }
 }
 
-fn read_instruction<'a>(operation: Operation, words: &mut Pieces<'a>) -> Result<Draft, Flaw<'a>> {
+fn read_instruction<'a>(
+    operation: Operation,
+    words: &mut Pieces<'a>,
+) -> Result<Draft, Misread<'a>> {
     let row = operation.row();
     Ok(Draft {
         operation,
@@ -400,7 +406,7 @@ fn read_instruction<'a>(operation: Operation, words: &mut Pieces<'a>) -> Result<
     })
 }
 
-fn read_operand<'a>(operand: Operand, words: &mut Pieces<'a>) -> Result<u8, Flaw<'a>> {
+fn read_operand<'a>(operand: Operand, words: &mut Pieces<'a>) -> Result<u8, Misread<'a>> {
     if operand == Operand::Unused {
         return Ok(0);
     }
@@ -410,11 +416,14 @@ fn read_operand<'a>(operand: Operand, words: &mut Pieces<'a>) -> Result<u8, Flaw
     }
     match index(b'r', word) {
         Some(register) if register < Instruction::NONE => Ok(register),
-        Some(_) | None => Err(Flaw::Word(word, operand_words(operand))),
+        Some(_) | None => Err(Misread {
+            word,
+            wrong: operand_words(operand),
+        }),
     }
 }
 
-fn read_number<'a>(number: Number, words: &mut Pieces<'a>) -> Result<i32, Flaw<'a>> {
+fn read_number<'a>(number: Number, words: &mut Pieces<'a>) -> Result<i32, Misread<'a>> {
     match number {
         Number::Unused => Ok(0),
         Number::Any | Number::Turns => read_signed(words),
@@ -428,22 +437,22 @@ fn read_number<'a>(number: Number, words: &mut Pieces<'a>) -> Result<i32, Flaw<'
     }
 }
 
-fn read_signed<'a>(words: &mut Pieces<'a>) -> Result<i32, Flaw<'a>> {
+fn read_signed<'a>(words: &mut Pieces<'a>) -> Result<i32, Misread<'a>> {
     let word = words.next_word().unwrap_or(&[]);
     match signed(word) {
         Some(number) => Ok(number),
-        None => Err(Flaw::Word(
+        None => Err(Misread {
             word,
-            "should be a decimal number of 32 bits, without leading zeros",
-        )),
+            wrong: "should be a decimal number of 32 bits, without leading zeros",
+        }),
     }
 }
 
-fn read_type<'a>(words: &mut Pieces<'a>) -> Result<i32, Flaw<'a>> {
+fn read_type<'a>(words: &mut Pieces<'a>) -> Result<i32, Misread<'a>> {
     read_index(b't', words, "should be a type, such as `t0`")
 }
 
-fn read_constant<'a>(words: &mut Pieces<'a>) -> Result<i32, Flaw<'a>> {
+fn read_constant<'a>(words: &mut Pieces<'a>) -> Result<i32, Misread<'a>> {
     read_index(b'k', words, "should be a constant, such as `k0`")
 }
 
@@ -451,11 +460,11 @@ fn read_index<'a>(
     letter: u8,
     words: &mut Pieces<'a>,
     wrong: &'static str,
-) -> Result<i32, Flaw<'a>> {
+) -> Result<i32, Misread<'a>> {
     let word = words.next_word().unwrap_or(&[]);
     match index(letter, word) {
         Some(index) => Ok(i32::from(index)),
-        None => Err(Flaw::Word(word, wrong)),
+        None => Err(Misread { word, wrong }),
     }
 }
 
@@ -470,11 +479,8 @@ fn index(letter: u8, word: &[u8]) -> Option<u8> {
 
 /// The signed number in a word. A plus sign and leading zeros are wrong.
 fn signed(word: &[u8]) -> Option<i32> {
-    let is_plain = match word {
-        [b'+', ..] | [b'0', _, ..] | [b'-', b'0', ..] => false,
-        _ => true,
-    };
-    if !is_plain {
+    let has_leading_zero = word.starts_with(b"-0") || (word.starts_with(b"0") && word.len() > 1);
+    if has_leading_zero || word.starts_with(b"+") {
         return None;
     }
     str::from_utf8(word).ok()?.parse().ok()
