@@ -25,7 +25,7 @@ const NO_NUMBER: i64 = 7;
 /// The result of an opener, or its code.
 type Answer = Result<Register, i64>;
 
-impl AbstractRun<'_> {
+impl AbstractRun {
     /// Performs an opener, and returns whether it succeeded.
     pub(crate) fn open(&mut self, objects: &mut Objects, i: Instruction) -> Result<bool, Fail> {
         if i.operation == Operation::If {
@@ -293,7 +293,7 @@ impl AbstractRun<'_> {
         if i.operation != Operation::AddStr {
             text.clear();
         }
-        text.extend_from_slice(self.constant(i))
+        text.extend_from_slice(self.constant())
     }
 
     fn on_items(&self, items: &mut Vec<usize>, i: Instruction) -> Answer {

@@ -5,7 +5,7 @@ use crate::model::{Objects, ValueContent};
 use client_code::{Instruction, Operation};
 use std::test::Fail;
 
-impl AbstractRun<'_> {
+impl AbstractRun {
     /// Performs an instruction without parts.
     pub(crate) fn act(&mut self, objects: &mut Objects, i: Instruction) -> Result<(), Fail> {
         let (b, c) = (self.number(i.b), self.number(i.c));
@@ -18,7 +18,7 @@ impl AbstractRun<'_> {
             Operation::Less => self.give(i, i64::from(b < c)),
             Operation::Equal => self.give(i, i64::from(b == c)),
             Operation::OutInt => return self.print_number(b),
-            Operation::OutConst => return self.print(self.constant(i)),
+            Operation::OutConst => return self.print_constant(),
             Operation::OutStr => return self.print_text(objects, i),
             Operation::Kill => return self.kill(objects, i),
             Operation::KillUnique => {

@@ -1,8 +1,8 @@
-//! A client's run on the model, next to the output of a real run. The model can't know when memory runs out, so it takes that
-//! from the output: an opener that succeeds prints a mark first. Everything else must be as printed.
+//! The registers, the input and the output of a client that runs on the model, next to the output of a real run. The model can't
+//! know when memory runs out, so it takes that from the output: an opener that succeeds prints a mark first. Everything else must
+//! be as printed.
 
-use crate::model::Objects;
-use client_code::{Client, ConstantKind, Instruction, Role};
+use client_code::{ConstantKind, Instruction};
 use itoa::Buffer;
 use std::alloc::Global;
 use std::test::Fail;
@@ -33,45 +33,33 @@ pub(crate) struct Sharing {
     pub(crate) read: bool,
 }
 
-/// An open part of the code.
-#[derive(Clone, Copy)]
-enum EnteredPart {
-    Opener,
-    Loop { start: u32, turns: i32 },
-}
-
-/// A run of a client.
+/// What the instructions of a run on the model work on. It has no lifetime, so that their proofs are shorter.
 #[derive(Drop)]
-pub(crate) struct AbstractRun<'a> {
+pub(crate) struct AbstractRun {
     pub(crate) alloc: Global,
-    pub(crate) client: Client<'a>,
     registers: [Register; 16],
-    parts: Vec<EnteredPart>,
-    at: u32,
-    pub(crate) steps: u64,
+    /// The bytes of the current instruction's constant, and whether it is a family of names.
+    constant: Vec<u8>,
+    is_family: bool,
     pub(crate) sharing: Sharing,
-    pub(crate) input: &'a [u8],
-    /// The rest of the real run's output.
-    pub(crate) printed: &'a [u8],
+    /// The rest of the input.
+    pub(crate) input: &'static [u8],
+    /// The real run's output, and how many of its bytes were compared.
+    printed: Vec<u8>,
+    compared: usize,
 }
 
-impl<'a> AbstractRun<'a> {
-    pub(crate) fn new(
-        alloc: Global,
-        client: Client<'a>,
-        input: &'a [u8],
-        printed: &'a [u8],
-    ) -> AbstractRun<'a> {
+impl AbstractRun {
+    pub(crate) fn new(alloc: Global, input: &'static [u8], printed: Vec<u8>) -> AbstractRun {
         AbstractRun {
             alloc,
-            client,
             registers: [Register::Undefined; 16],
-            parts: Vec::new(alloc),
-            at: 0,
-            steps: 0,
+            constant: Vec::new(alloc),
+            is_family: false,
             sharing: Sharing::default(),
             input,
             printed,
+            compared: 0,
         }
     }
 
@@ -100,20 +88,23 @@ impl<'a> AbstractRun<'a> {
         }
     }
 
+    /// The rest of the real run's output.
+    pub(crate) fn rest(&self) -> &[u8] {
+        self.printed.get(self.compared..).unwrap_or(&[])
+    }
+
     /// Whether the real run found room for the current instruction.
     pub(crate) fn found_room(&self) -> bool {
-        self.printed.starts_with(MARK)
+        self.rest().starts_with(MARK)
     }
 
     /// Tests that the real run printed these bytes next.
     pub(crate) fn print(&mut self, bytes: &[u8]) -> Result<(), Fail> {
-        match self.printed.strip_prefix(bytes) {
-            Some(rest) => {
-                self.printed = rest;
-                Ok(())
-            }
-            None => Err(Fail::from("the run printed something else")),
+        if !self.rest().starts_with(bytes) {
+            return Err(Fail::from("the run printed something else"));
         }
+        self.compared = self.compared.saturating_add(bytes.len());
+        Ok(())
     }
 
     pub(crate) fn print_number(&mut self, number: i64) -> Result<(), Fail> {
@@ -121,139 +112,31 @@ impl<'a> AbstractRun<'a> {
         self.print(b"\n")
     }
 
-    /// The bytes of a constant.
-    pub(crate) fn constant(&self, i: Instruction) -> &'a [u8] {
-        match self.client.constants().get(i.constant() as usize) {
-            Some(constant) => constant.bytes,
-            None => &[],
-        }
+    pub(crate) fn print_constant(&mut self) -> Result<(), Fail> {
+        let constant = self.constant.clone()?;
+        self.print(constant.as_slice())
     }
 
-    /// The name that an instruction refers to.
+    /// Sets the constant of the current instruction.
+    pub(crate) fn set_constant(&mut self, kind: ConstantKind, bytes: &[u8]) -> Result<(), Fail> {
+        self.is_family = kind == ConstantKind::Family;
+        self.constant.clear();
+        self.constant.extend_from_slice(bytes)?;
+        Ok(())
+    }
+
+    /// The bytes of the current instruction's constant.
+    pub(crate) fn constant(&self) -> &[u8] {
+        self.constant.as_slice()
+    }
+
+    /// The name that the current instruction refers to.
     pub(crate) fn name(&self, i: Instruction) -> Result<Vec<u8>, Fail> {
-        let constants = self.client.constants();
-        let Some(constant) = constants.get(i.constant() as usize) else {
-            return Err(Fail::from("no such constant"));
-        };
-        match constant.kind {
-            ConstantKind::Family => family_name(self.alloc, constant.bytes, self.number(i.b)),
-            ConstantKind::Name | ConstantKind::Text => {
-                Ok(Vec::from_slice(self.alloc, constant.bytes)?)
-            }
+        let mut name = self.constant.clone()?;
+        if self.is_family {
+            name.push(b'#')?;
+            name.extend_from_slice(Buffer::new().format(self.number(i.b)).as_bytes())?;
         }
+        Ok(name)
     }
-
-    /// Runs to the end of the code.
-    pub(crate) fn to_end(&mut self, objects: &mut Objects) -> Result<(), Fail> {
-        for _ in 0..1_000_000 {
-            let Some(i) = self.client.instruction(self.at) else {
-                return Ok(());
-            };
-            self.turn(objects, i)?;
-        }
-        Err(Fail::from("the run doesn't end"))
-    }
-
-    fn turn(&mut self, objects: &mut Objects, i: Instruction) -> Result<(), Fail> {
-        match i.operation.row().role {
-            Role::Plain => {
-                self.count_step();
-                self.act(objects, i)?;
-                self.go_after(self.at);
-                Ok(())
-            }
-            Role::Opener => self.open_part(objects, i),
-            Role::Loop => self.enter(i),
-            Role::Else => {
-                let _ = self.parts.pop();
-                self.go_after(self.mark(Role::End));
-                Ok(())
-            }
-            Role::End => self.end(),
-        }
-    }
-
-    fn open_part(&mut self, objects: &mut Objects, i: Instruction) -> Result<(), Fail> {
-        self.count_step();
-        let opens = self.open(objects, i)?;
-        self.parts.push(EnteredPart::Opener)?;
-        let at = if opens {
-            self.at
-        } else {
-            self.mark(Role::Else)
-        };
-        self.go_after(at);
-        Ok(())
-    }
-
-    fn enter(&mut self, i: Instruction) -> Result<(), Fail> {
-        self.count_step();
-        self.parts.push(EnteredPart::Loop {
-            start: self.at,
-            turns: i.number,
-        })?;
-        self.at = self.mark(Role::End);
-        Ok(())
-    }
-
-    fn count_step(&mut self) {
-        self.steps = self.steps.wrapping_add(1);
-    }
-
-    fn go_after(&mut self, at: u32) {
-        self.at = at.wrapping_add(1);
-    }
-
-    /// Ends a part.
-    fn end(&mut self) -> Result<(), Fail> {
-        match self.parts.pop() {
-            Some(EnteredPart::Loop { start, turns }) if turns > 0 && self.turns_again(start) => {
-                self.count_step();
-                self.parts.push(EnteredPart::Loop {
-                    start,
-                    turns: turns.wrapping_sub(1),
-                })?;
-                self.go_after(start);
-            }
-            _ => self.go_after(self.at),
-        }
-        Ok(())
-    }
-
-    /// Whether the number of the loop that starts here isn't 0.
-    fn turns_again(&self, start: u32) -> bool {
-        match self.client.instruction(start) {
-            Some(i) => self.number(i.b) != 0,
-            None => false,
-        }
-    }
-
-    /// The index of the `ELSE` or `END` of the current instruction.
-    fn mark(&self, wanted: Role) -> u32 {
-        let mut depth = 0u32;
-        let end = self.client.instruction_count();
-        for at in self.at.wrapping_add(1)..end {
-            let Some(i) = self.client.instruction(at) else {
-                break;
-            };
-            let role = i.operation.row().role;
-            if depth == 0 && role == wanted {
-                return at;
-            }
-            match role {
-                Role::Opener | Role::Loop => depth = depth.wrapping_add(1),
-                Role::End => depth = depth.wrapping_sub(1),
-                Role::Plain | Role::Else => {}
-            }
-        }
-        end
-    }
-}
-
-/// The name of a family's object with this number.
-fn family_name(alloc: Global, front: &[u8], number: i64) -> Result<Vec<u8>, Fail> {
-    let mut name = Vec::from_slice(alloc, front)?;
-    name.push(b'#')?;
-    name.extend_from_slice(Buffer::new().format(number).as_bytes())?;
-    Ok(name)
 }

@@ -5,10 +5,18 @@
 mod abstract_openers;
 mod abstract_plain;
 mod abstract_run;
+mod client_text;
+mod containers;
 mod counts;
 mod generator;
 mod model;
+mod objects;
+mod owners;
+mod parts;
+mod plain;
+mod position;
 mod random_clients;
+mod values;
 
 use crate::random_clients::follow_rounds;
 use std::env;

@@ -2,6 +2,7 @@ use crate::abstract_run::{AbstractRun, Sharing};
 use crate::counts::Counts;
 use crate::generator::{Generator, Version};
 use crate::model::Objects;
+use crate::position::Position;
 use client_code::{Client, TypeTable, parse};
 use std::alloc::Global;
 use std::io::Eprint;
@@ -47,18 +48,30 @@ fn retrace(
     alloc: Global,
     objects: &mut Objects,
     client: Client,
-    printed: &[u8],
+    printed: Vec<u8>,
 ) -> Result<Retraced, Fail> {
-    let mut model = AbstractRun::new(alloc, client, INPUT, printed);
-    model.to_end(objects)?;
-    if !model.printed.is_empty() {
+    let mut run = AbstractRun::new(alloc, INPUT, printed);
+    let steps = steps_of(alloc, &mut run, objects, client)?;
+    if !run.rest().is_empty() {
         return Err(Fail::from("the run printed more"));
     }
     Ok(Retraced {
-        steps: model.steps,
-        read: INPUT.len().wrapping_sub(model.input.len()),
-        sharing: model.sharing,
+        steps,
+        read: INPUT.len().wrapping_sub(run.input.len()),
+        sharing: run.sharing,
     })
+}
+
+/// Runs a client to its end. Returns the number of its steps.
+fn steps_of(
+    alloc: Global,
+    run: &mut AbstractRun,
+    objects: &mut Objects,
+    client: Client,
+) -> Result<u64, Fail> {
+    let mut position = Position::new(alloc, client);
+    position.to_end(run, objects)?;
+    Ok(position.steps)
 }
 
 /// The image that a client left, and what it did with frozen objects.
@@ -94,8 +107,8 @@ fn follow(
         ..PLAIN
     };
     let ran = run_files(alloc, image, &[file], setting)?;
-    let retraced = retrace(alloc, objects, parsed, ran.out.as_slice())?;
     let report = ran.reports.first().copied().unwrap_or_default();
+    let retraced = retrace(alloc, objects, parsed, ran.out)?;
     same("steps", report.steps, retraced.steps)?;
     same(
         "bytes of the input",
