@@ -1,20 +1,21 @@
 use client_vm::Ended;
-use std::process::Abort;
+use std::alloc::Global;
 use std::test::Fail;
-use support_data::{Ran, equal, is_true, statistics_of};
+use support_data::{Ran, statistics_of};
 
-/// Tests what the clients print, and how many bytes are free and how many names there are afterwards.
+/// Whether clients finished and printed this, with this many bytes free and this many names afterwards.
 pub(crate) fn leaves(
-    rt: &(impl Abort + AllocGlobal),
+    alloc: Global,
     ran: &Ran,
     printed: &str,
     free: u32,
     named: u32,
-) -> Result<(), Fail> {
-    equal(ran.out.as_slice(), printed.as_bytes()).expect(rt, "equal");
-    let left = statistics_of(rt.alloc(), ran.image.as_slice())?;
-    equal(left.free, free).expect(rt, "equal");
-    equal(left.named, named).expect(rt, "equal");
-    is_true(ran.ended == Ended::Done).expect(rt, "true");
-    Ok(())
+) -> Result<bool, Fail> {
+    let left = statistics_of(alloc, ran.image.as_slice())?;
+    Ok(has_printed(ran, printed.as_bytes()) && left.free == free && left.named == named)
+}
+
+/// Whether clients finished and printed this.
+fn has_printed(ran: &Ran, printed: &[u8]) -> bool {
+    ran.ended == Ended::Done && ran.out.as_slice() == printed
 }

@@ -2,9 +2,7 @@ use crate::tests::plays::{Play, play_each, plays_with};
 use client_vm::Ended;
 use std::alloc::Global;
 use std::test::Fail;
-use support_data::{
-    KINDS, PLAIN, Ran, SegmentKind, Setting, chain, empty, is_true, run_in, statistics_of,
-};
+use support_data::{KINDS, PLAIN, Ran, SegmentKind, Setting, chain, empty, run_in, statistics_of};
 
 /// A chain of 20,000 objects, each of which owns the one before, is made and destroyed.
 #[test]
@@ -49,7 +47,7 @@ fn free_at_failure(alloc: Global, kind: SegmentKind) -> Result<Option<u32>, Fail
 #[test]
 fn registers_are_emptied_at_the_end(rt: HostRuntime) -> Result<(), Fail> {
     for kind in KINDS {
-        is_true(free_at_failure(rt.alloc(), kind)? == Some(320)).expect(&rt, "true");
+        assert!(rt; free_at_failure(rt.alloc(), kind)? == Some(320));
     }
     Ok(())
 }

@@ -5,11 +5,10 @@ use crate::tests::left::leaves;
 use client_vm::{Ended, Move, Through, moves_fit, run};
 use seg_manager::{Fault, Region, Segment};
 use std::alloc::Global;
-use std::process::Abort;
 use std::test::Fail;
 use support_data::{
-    INCREMENT_FILE, KINDS, Limited, PLAIN, Ran, SEQ_FLAT, SeqFit, Setting, chain, counter,
-    counter_saved, empty, equal, is_true, opened, outcome_of, placed, ready, run_files, run_in,
+    INCREMENT_FILE, KINDS, Limited, PLAIN, Ran, SEQ_FLAT, SegmentKind, SeqFit, Setting, chain,
+    counter, counter_saved, empty, opened, outcome_of, placed, ready, run_files, run_in,
 };
 
 /// The size of the host. All its bytes outside the segment are 0xa5.
@@ -28,32 +27,43 @@ fn is_untouched(bytes: &[u8]) -> bool {
     bytes.iter().all(|byte| *byte == 0xa5)
 }
 
-/// Runs the increment client on a segment with moves.
+/// The call that moves are tested with, without its contract.
+fn first_unfit(segment: &Segment<SeqFit, Global>, moves: &[Move]) -> Option<usize> {
+    moves_fit(segment, moves)
+}
+
+/// Runs the increment client on a segment with moves. Returns what it prints, if it ends after its steps.
 fn increment(
-    rt: &(impl Abort + AllocGlobal),
+    alloc: Global,
     segment: &mut Segment<SeqFit, Global>,
     moves: &[Move],
-) -> Result<(), Fail> {
-    let client = ready(rt.alloc(), &INCREMENT_FILE, segment.types())?;
-    let mut out = Through::new(Limited::new(rt.alloc(), 1, usize::MAX));
+) -> Result<Option<Vec<u8>>, Fault> {
+    let client = ready(alloc, &INCREMENT_FILE, segment.types())?;
+    let mut out = Through::new(Limited::new(alloc, 1, usize::MAX));
     let report = run(segment, &client, b"", moves, &mut out);
-    equal(report.steps, 6).expect(rt, "equal");
-    is_true(report.ended == Ended::Done).expect(rt, "true");
-    equal(out.into_inner().bytes.as_slice(), b"42\n".as_slice()).expect(rt, "equal");
-    Ok(())
+    let is_done = report.steps == 6 && report.ended == Ended::Done;
+    Ok(is_done.then_some(out.into_inner().bytes))
+}
+
+/// Whether a segment is the counter's after the increment client.
+fn is_incremented(alloc: Global, segment: &Segment<SeqFit, Global>) -> Result<bool, Fail> {
+    let saved = counter_saved(alloc, 42)?;
+    Ok(segment.window().slice(0, 784) == saved.as_slice())
 }
 
 /// Runs the increment client on the counter at a base with moves. Returns the host's bytes.
-fn increments(
-    rt: &(impl Abort + AllocGlobal),
-    base: u32,
-    moves: &[Move],
-) -> Result<Region<Global>, Fail> {
-    let mut segment = counter_at(rt.alloc(), base)?;
-    equal(moves_fit(&segment, moves), None).expect(rt, "equal");
-    increment(rt, &mut segment, moves)?;
-    let saved = counter_saved(rt.alloc(), 42)?;
-    equal(segment.window().slice(0, 784), saved.as_slice()).expect(rt, "equal");
+fn increments(alloc: Global, base: u32, moves: &[Move]) -> Result<Region<Global>, Fail> {
+    let mut segment = counter_at(alloc, base)?;
+    if first_unfit(&segment, moves).is_some() {
+        return Err(Fail::from("the moves don't fit"));
+    }
+    match increment(alloc, &mut segment, moves)? {
+        Some(printed) if printed.as_slice() == b"42\n".as_slice() => {}
+        _ => return Err(Fail::from("another run")),
+    }
+    if !is_incremented(alloc, &segment)? {
+        return Err(Fail::from("another image"));
+    }
     Ok(segment.into_region())
 }
 
@@ -68,15 +78,11 @@ fn keeps(region: &Region<Global>, from: u32, to: u32) -> bool {
 #[test]
 fn host_bytes_stay(rt: HostRuntime) -> Result<(), Fail> {
     for base in [0u32, 16, 4096, 7408] {
-        let region = increments(&rt, base, &[])?;
+        let region = increments(rt.alloc(), base, &[])?;
         let is_kept = keeps(&region, 0, base) && keeps(&region, base.saturating_add(784), ROOM);
-        is_true(is_kept).expect(&rt, "true");
+        assert!(rt; is_kept, "{base}");
     }
     Ok(())
-}
-
-fn before(step: u64, base: u32) -> Move {
-    Move { step, base }
 }
 
 /// Moves right before each of the first `steps` steps, to two bases in turn.
@@ -93,130 +99,195 @@ fn moves_between(alloc: Global, steps: u64, odd: u32, even: u32) -> Result<Vec<M
 #[test]
 fn host_bytes_stay_where_it_moves(rt: HostRuntime) -> Result<(), Fail> {
     let moves = moves_between(rt.alloc(), 6, 4096, 0)?;
-    let region = increments(&rt, 0, moves.as_slice())?;
-    is_true(keeps(&region, 784, 4096) && keeps(&region, 4880, ROOM)).expect(&rt, "true");
+    let region = increments(rt.alloc(), 0, moves.as_slice())?;
+    assert!(rt; keeps(&region, 784, 4096) && keeps(&region, 4880, ROOM));
     Ok(())
 }
 
 /// After its only move, the bytes at the image's old place are unchanged.
 #[test]
 fn an_image_stays_where_it_was(rt: HostRuntime) -> Result<(), Fail> {
-    let region = increments(&rt, 0, &[before(5, 4096)])?;
+    let region = increments(
+        rt.alloc(),
+        0,
+        &[Move {
+            step: 5,
+            base: 4096,
+        }],
+    )?;
+    let saved = counter_saved(rt.alloc(), 41)?;
     assert!(rt; region.len() == ROOM);
-    equal(
-        region.slice(0, 784),
-        counter_saved(rt.alloc(), 41)?.as_slice(),
-    )
-    .expect(&rt, "equal");
+    assert!(rt; region.slice(0, 784) == saved.as_slice());
     Ok(())
 }
 
-/// The first move that doesn't fit: its step isn't above the step before, or its base isn't valid.
+// Moves, and the first of them that doesn't fit: its step isn't above the step before, or its base isn't valid.
+static MOVES: [(&[Move], Option<usize>); 5] = [
+    (
+        &[
+            Move { step: 2, base: 16 },
+            Move {
+                step: 3,
+                base: 7408,
+            },
+        ],
+        None,
+    ),
+    (
+        &[Move { step: 2, base: 16 }, Move { step: 2, base: 0 }],
+        Some(1),
+    ),
+    (
+        &[Move { step: 2, base: 16 }, Move { step: 3, base: 8 }],
+        Some(1),
+    ),
+    (
+        &[
+            Move { step: 2, base: 16 },
+            Move {
+                step: 3,
+                base: 7424,
+            },
+        ],
+        Some(1),
+    ),
+    (&[Move { step: 0, base: 0 }], Some(0)),
+];
+
 #[test]
 fn moves_that_do_not_fit(rt: HostRuntime) -> Result<(), Fail> {
     let segment = counter_at(rt.alloc(), 0)?;
-    let fits = before(2, 16);
-    equal(moves_fit(&segment, &[fits, before(3, 7408)]), None).expect(&rt, "equal");
-    for second in [before(2, 0), before(3, 8), before(3, 7424)] {
-        equal(moves_fit(&segment, &[fits, second]), Some(1)).expect(&rt, "equal");
+    for (moves, wanted) in &MOVES {
+        assert!(rt; first_unfit(&segment, moves) == *wanted);
     }
-    equal(moves_fit(&segment, &[before(0, 0)]), Some(0)).expect(&rt, "equal");
     Ok(())
 }
 
-/// Tests that a run with these moves is refused because of the move with this index.
-fn refuses_move(rt: &(impl Abort + AllocGlobal), moves: &[Move], bad: u32) -> Result<(), Fail> {
-    let image = counter(rt.alloc())?;
+// Moves in a region of 800 bytes, and the first of them that doesn't fit.
+static REFUSED: [(&[Move], u32); 4] = [
+    (&[Move { step: 2, base: 0 }, Move { step: 2, base: 0 }], 1),
+    (&[Move { step: 0, base: 0 }, Move { step: 2, base: 0 }], 0),
+    (&[Move { step: 1, base: 16 }, Move { step: 3, base: 32 }], 1),
+    (&[Move { step: 1, base: 8 }, Move { step: 2, base: 0 }], 0),
+];
+
+/// Whether a run is refused because of the move with this index.
+fn refuses_move(alloc: Global, image: &[u8], moves: &[Move], bad: u32) -> bool {
     let setting = Setting {
         room: 800,
         moves,
         ..PLAIN
     };
-    match outcome_of(rt.alloc(), image.as_slice(), &[], setting) {
-        Ok(_ran) => Err(Fail::from("ran")),
-        Err(refused) => {
-            is_true(refused.fault == Fault::BadMove(bad)).expect(rt, "true");
-            is_true(refused.client.is_none()).expect(rt, "true");
-            Ok(())
-        }
+    match outcome_of(alloc, image, &[], setting) {
+        Ok(_ran) => false,
+        Err(refused) => refused.fault == Fault::BadMove(bad) && refused.client.is_none(),
     }
 }
 
 #[test]
 fn refuses_moves(rt: HostRuntime) -> Result<(), Fail> {
-    refuses_move(&rt, &[before(2, 0), before(2, 0)], 1)?;
-    refuses_move(&rt, &[before(0, 0), before(2, 0)], 0)?;
-    refuses_move(&rt, &[before(1, 16), before(3, 32)], 1)?;
-    refuses_move(&rt, &[before(1, 8), before(2, 0)], 0)
+    let image = counter(rt.alloc())?;
+    for (moves, bad) in &REFUSED {
+        assert!(rt; refuses_move(rt.alloc(), image.as_slice(), moves, *bad));
+    }
+    Ok(())
+}
+
+/// Whether two runs of the increment client with this setting print and save what they should.
+fn increments_twice(alloc: Global, setting: Setting) -> Result<bool, Fail> {
+    let image = counter(alloc)?;
+    let saved = counter_saved(alloc, 43)?;
+    let clients = [INCREMENT_FILE.as_slice(), INCREMENT_FILE.as_slice()];
+    let ran = run_files(alloc, image.as_slice(), clients.as_slice(), setting)?;
+    Ok(ran.out.as_slice() == b"42\n43\n".as_slice() && ran.image.as_slice() == saved.as_slice())
 }
 
 /// A move before each step of each client, to 4096 and 0 in turn.
 #[test]
 fn runs_alike_where_it_moves(rt: HostRuntime) -> Result<(), Fail> {
-    let image = counter(rt.alloc())?;
     let moves = moves_between(rt.alloc(), 6, 4096, 0)?;
     let setting = Setting {
         room: ROOM,
         moves: moves.as_slice(),
         ..PLAIN
     };
-    let clients = [INCREMENT_FILE.as_slice(), INCREMENT_FILE.as_slice()];
-    let ran = run_files(rt.alloc(), image.as_slice(), clients.as_slice(), setting)?;
-    equal(ran.out.as_slice(), b"42\n43\n".as_slice()).expect(&rt, "equal");
-    let saved = counter_saved(rt.alloc(), 43)?;
-    equal(ran.image.as_slice(), saved.as_slice()).expect(&rt, "equal");
+    assert!(rt; increments_twice(rt.alloc(), setting)?);
     Ok(())
 }
 
-/// Tests that a run with a setting prints, saves and reports the same as a run without it.
-fn runs_alike(
-    rt: &(impl Abort + AllocGlobal),
-    image: &[u8],
-    texts: &[&str],
-    setting: Setting,
-) -> Result<Ran, Fail> {
-    let still = run_in(rt.alloc(), image, texts, PLAIN)?;
-    let ran = run_in(rt.alloc(), image, texts, setting)?;
-    equal(ran.out.as_slice(), still.out.as_slice()).expect(rt, "equal");
-    equal(ran.image.as_slice(), still.image.as_slice()).expect(rt, "equal");
-    is_true(ran.reports == still.reports).expect(rt, "true");
-    Ok(ran)
+/// Whether two runs print, save and report the same.
+fn are_alike(ran: &Ran, still: &Ran) -> bool {
+    ran.out.as_slice() == still.out.as_slice()
+        && ran.image.as_slice() == still.image.as_slice()
+        && ran.reports == still.reports
 }
 
-/// Another base, and a move right before each step, change nothing in the output and the saved image.
+/// Whether a run with a setting prints, saves and reports the same as this run without it.
+fn runs_alike(
+    alloc: Global,
+    image: &[u8],
+    texts: &[&str],
+    still: &Ran,
+    setting: Setting,
+) -> Result<bool, Fail> {
+    let ran = run_in(alloc, image, texts, setting)?;
+    Ok(are_alike(&ran, still))
+}
+
+/// The same at a base, first without a move, and then with a move to it before the first step: an image that doesn't move isn't put
+/// at its base.
+fn runs_alike_at(
+    alloc: Global,
+    image: &[u8],
+    texts: &[&str],
+    still: &Ran,
+    base: u32,
+) -> Result<bool, Fail> {
+    let there = Setting { base, ..PLAIN };
+    let moves = &[Move { step: 1, base }];
+    Ok(
+        runs_alike(alloc, image, texts, still, there)?
+            && runs_alike(alloc, image, texts, still, Setting { moves, ..there })?,
+    )
+}
+
+/// Whether another base, and these moves, change nothing in the output and the saved image.
+fn runs_alike_wherever(alloc: Global, kind: SegmentKind, moves: &[Move]) -> Result<bool, Fail> {
+    let image = empty(alloc, 1024, kind)?;
+    let image = image.as_slice();
+    let texts = [FIVE_TEXTS, PRINT_TEXTS];
+    let still = run_in(alloc, image, &texts, PLAIN)?;
+    Ok(
+        runs_alike_at(alloc, image, &texts, &still, 16)?
+            && runs_alike_at(alloc, image, &texts, &still, 65_536)?
+            && runs_alike(alloc, image, &texts, &still, Setting { moves, ..PLAIN })?,
+    )
+}
+
+/// A move right before each step, and other bases.
 #[test]
 fn runs_alike_wherever_it_lies(rt: HostRuntime) -> Result<(), Fail> {
     let moves = moves_between(rt.alloc(), 200, 272, 0)?;
-    let moves = moves.as_slice();
     for kind in KINDS {
-        let image = empty(rt.alloc(), 1024, kind)?;
-        let texts = [FIVE_TEXTS, PRINT_TEXTS];
-        for base in [16, 65_536] {
-            let _ = runs_alike(&rt, image.as_slice(), &texts, Setting { base, ..PLAIN })?;
-            // an image that doesn't move isn't put at its base
-            let moves = &[before(1, base)];
-            let there = Setting {
-                base,
-                moves,
-                ..PLAIN
-            };
-            let _ = runs_alike(&rt, image.as_slice(), &texts, there)?;
-        }
-        let _ = runs_alike(&rt, image.as_slice(), &texts, Setting { moves, ..PLAIN })?;
+        assert!(rt; runs_alike_wherever(rt.alloc(), kind, moves.as_slice())?);
     }
     Ok(())
 }
 
-/// The chain is made and destroyed while the segment moves before each step.
+/// Whether the chain is made and destroyed as without these moves, and leaves an empty segment.
+fn chain_runs_alike(alloc: Global, moves: &[Move]) -> Result<bool, Fail> {
+    let text = chain(alloc, 2_000)?;
+    let image = empty(alloc, 1 << 17, SEQ_FLAT)?;
+    let texts = [text.as_str()];
+    let still = run_in(alloc, image.as_slice(), &texts, PLAIN)?;
+    let ran = run_in(alloc, image.as_slice(), &texts, Setting { moves, ..PLAIN })?;
+    Ok(are_alike(&ran, &still) && leaves(alloc, &ran, "", 131_072 - 704, 0)?)
+}
+
+/// The segment moves before each step.
 #[test]
 fn a_chain_that_moves(rt: HostRuntime) -> Result<(), Fail> {
-    let text = chain(rt.alloc(), 2_000)?;
     let moves = moves_between(rt.alloc(), 16_004, 65_536, 48)?;
-    let image = empty(rt.alloc(), 1 << 17, SEQ_FLAT)?;
-    let setting = Setting {
-        moves: moves.as_slice(),
-        ..PLAIN
-    };
-    let ran = runs_alike(&rt, image.as_slice(), &[text.as_str()], setting)?;
-    leaves(&rt, &ran, "", 131_072 - 704, 0)
+    assert!(rt; chain_runs_alike(rt.alloc(), moves.as_slice())?);
+    Ok(())
 }

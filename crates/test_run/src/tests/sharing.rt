@@ -6,11 +6,10 @@ use crate::tests::plays::{Play, play_each};
 use client_vm::Ended;
 use seg_manager::{Fault, TypeTable};
 use std::alloc::Global;
-use std::process::Abort;
 use std::test::Fail;
 use support_data::{
     COUNT, KINDS, NOTICE, PLAIN, PUBLISH, Ran, SEQ_FLAT, SegmentKind, Setting, checked, client,
-    empty, equal, is_true, outcome_of, run_anew, run_in, run_on, sharing, verified, write_words,
+    empty, outcome_of, run_anew, run_in, run_on, sharing, verified, write_words,
 };
 
 /// Freezes a number into a cell, shares it with another cell, destroys the first cell, and reads the number through the second.
@@ -71,7 +70,7 @@ fn shared_image(alloc: Global) -> Result<Vec<u8>, Fail> {
 fn the_steps_of_sharing_are_the_bound(rt: HostRuntime) -> Result<(), Fail> {
     let file = client(rt.alloc(), SHARE)?;
     let accepted = verified(file.as_slice(), &TypeTable::new())?;
-    equal(accepted.bound(), 12).expect(&rt, "equal");
+    assert!(rt; accepted.bound() == 12);
     Ok(())
 }
 
@@ -87,12 +86,18 @@ fn has_words(image: &[u8], at: usize, words: &[u32]) -> bool {
     true
 }
 
+/// Whether an image has the words of each of these rows at its position.
+fn has_rows(image: &[u8], rows: &[(usize, &[u32])]) -> bool {
+    rows.iter().all(|row| has_words(image, row.0, row.1))
+}
+
 /// The cell points 64 bytes ahead. One cell shares the object there, which is the first frozen object, with the value 7.
+static SHARED: [(usize, &[u32]); 2] = [(800, &[64, 1]), (864, &[1, 0, 7, 0])];
+
 #[test]
 fn the_bytes_of_what_is_shared(rt: HostRuntime) -> Result<(), Fail> {
     let image = shared_image(rt.alloc())?;
-    is_true(has_words(image.as_slice(), 800, &[64, 1])).expect(&rt, "true");
-    is_true(has_words(image.as_slice(), 864, &[1, 0, 7, 0])).expect(&rt, "true");
+    assert!(rt; has_rows(image.as_slice(), &SHARED));
     Ok(())
 }
 
@@ -112,9 +117,8 @@ fn fault_of_changed(alloc: Global, at: usize, word: u32) -> Result<Option<Fault>
 #[test]
 fn wrong_counts_and_numbers_are_refused(rt: HostRuntime) -> Result<(), Fail> {
     for (at, word) in [(864, 2), (868, 1)] {
-        is_true(fault_of_changed(rt.alloc(), at, word)? == Some(Fault::BadValue(864))).expect(
-            &rt, "true",
-        );
+        let found = fault_of_changed(rt.alloc(), at, word)?;
+        assert!(rt; found == Some(Fault::BadValue(864)), "{at}");
     }
     Ok(())
 }
@@ -123,10 +127,11 @@ fn wrong_counts_and_numbers_are_refused(rt: HostRuntime) -> Result<(), Fail> {
 #[test]
 fn numbers_are_used_up(rt: HostRuntime) -> Result<(), Fail> {
     let image = changed(rt.alloc(), 28, u32::MAX)?;
-    equal(checked(rt.alloc(), image.as_slice()), Ok(())).expect(&rt, "equal");
+    assert!(rt; checked(rt.alloc(), image.as_slice()).is_ok());
     let ran = run_on(rt.alloc(), image.as_slice(), &[FREEZE])?;
     // the cell `a` is made in the same place as before
-    leaves(&rt, &ran, "7\n", 176, 2)
+    assert!(rt; leaves(rt.alloc(), &ran, "7\n", 176, 2)?);
+    Ok(())
 }
 
 /// Frozen objects are read-only.
@@ -147,19 +152,20 @@ fn what_is_frozen_is_not_changed(rt: HostRuntime) -> Result<(), Fail> {
         ELSE
         END",
     )?;
-    match outcome_of(rt.alloc(), image.as_slice(), &[file.as_slice()], PLAIN) {
-        Ok(_) => Err(Fail::from("ran")),
-        Err(refused) => {
-            equal(
-                refused.fault,
-                Fault::Rejected {
-                    instruction: 3,
-                    reason: 1,
-                },
-            )
-            .expect(&rt, "equal");
-            Ok(())
-        }
+    let found = fault_of_run(rt.alloc(), image.as_slice(), file.as_slice());
+    let rejected = Fault::Rejected {
+        instruction: 3,
+        reason: 1,
+    };
+    assert!(rt; found == Some(rejected));
+    Ok(())
+}
+
+/// Why a client doesn't run on an image.
+fn fault_of_run(alloc: Global, image: &[u8], file: &[u8]) -> Option<Fault> {
+    match outcome_of(alloc, image, &[file], PLAIN) {
+        Ok(_) => None,
+        Err(refused) => Some(refused.fault),
     }
 }
 
@@ -196,13 +202,12 @@ const REPLACE: &str = "type i64
 
 /// The named object is at 704 and its index at 736. The first struct, at 784, moves to the 48 bytes at 816. The second one, also
 /// at 784, moves to the 48 bytes at 864, which are free again at the end. The cell of `h` at 720 points to 832.
+static REPLACED: [(usize, &[u32]); 3] = [(28, &[2]), (720, &[112, 1]), (832, &[1, 0, 0, 0, 1, 0])];
+
 #[test]
 fn the_first_of_two_frozen_structs_is_left(rt: HostRuntime) -> Result<(), Fail> {
     let ran = run_anew(rt.alloc(), 1024, SEQ_FLAT, &[REPLACE])?;
-    let image = ran.image.as_slice();
-    is_true(has_words(image, 28, &[2])).expect(&rt, "true");
-    is_true(has_words(image, 720, &[112, 1])).expect(&rt, "true");
-    is_true(has_words(image, 832, &[1, 0, 0, 0, 1, 0])).expect(&rt, "true");
+    assert!(rt; has_rows(ran.image.as_slice(), &REPLACED));
     Ok(())
 }
 
@@ -392,38 +397,48 @@ const READ_EACH_KIND: &str = "type i64
     ELSE
     END";
 
-/// Tests that a client that only reads changes nothing.
-fn reading_changes_nothing(rt: &(impl Abort + AllocGlobal), kind: SegmentKind) -> Result<(), Fail> {
-    let frozen = run_anew(rt.alloc(), 4096, kind, &[FREEZE_EACH_KIND])?;
-    let read = run_on(rt.alloc(), frozen.image.as_slice(), &[READ_EACH_KIND])?;
-    equal(read.image.as_slice(), frozen.image.as_slice()).expect(rt, "equal");
-    Ok(())
+/// Whether a client that only reads changes nothing.
+fn reading_changes_nothing(alloc: Global, kind: SegmentKind) -> Result<bool, Fail> {
+    let frozen = run_anew(alloc, 4096, kind, &[FREEZE_EACH_KIND])?;
+    let read = run_on(alloc, frozen.image.as_slice(), &[READ_EACH_KIND])?;
+    Ok(read.image.as_slice() == frozen.image.as_slice())
 }
 
 #[test]
 fn readers_change_nothing(rt: HostRuntime) -> Result<(), Fail> {
     for kind in KINDS {
-        reading_changes_nothing(&rt, kind)?;
+        assert!(rt; reading_changes_nothing(rt.alloc(), kind)?);
     }
     Ok(())
 }
 
-/// An output fails after an object was frozen and shared. Tests that the objects are as they are without a failure.
-fn output_fails_after(rt: &(impl Abort + AllocGlobal), limit: usize) -> Result<Ran, Fail> {
-    let image = empty(rt.alloc(), 1024, SEQ_FLAT)?;
-    let setting = Setting { limit, ..PLAIN };
-    run_in(rt.alloc(), image.as_slice(), &[SHARE], setting)
+/// The result if an output fails after an object was frozen and shared.
+fn output_fails_after(alloc: Global, limit: usize) -> Result<Ran, Fail> {
+    let image = empty(alloc, 1024, SEQ_FLAT)?;
+    run_in(
+        alloc,
+        image.as_slice(),
+        &[SHARE],
+        Setting { limit, ..PLAIN },
+    )
 }
 
+/// The objects are as they are without a failure.
 #[test]
 fn frozen_objects_stay_where_the_output_fails(rt: HostRuntime) -> Result<(), Fail> {
     let image = shared_image(rt.alloc())?;
     for limit in 0..2 {
-        let ran = output_fails_after(&rt, limit)?;
-        is_true(ran.ended == Ended::OutputFailed).expect(&rt, "true");
-        equal(ran.image.as_slice(), image.as_slice()).expect(&rt, "equal");
+        let ran = output_fails_after(rt.alloc(), limit)?;
+        let is_kept = ran.image.as_slice() == image.as_slice();
+        assert!(rt; ran.ended == Ended::OutputFailed && is_kept, "{limit}");
     }
     Ok(())
+}
+
+/// Whether two images have the same bytes in the 32 from a position on.
+fn has_same(old: &[u8], new: &[u8], at: usize) -> bool {
+    let end = at.saturating_add(32);
+    new.get(at..end).is_some() && new.get(at..end) == old.get(at..end)
 }
 
 /// A client makes its number in the lowest free block, beside a frozen number. The block of the cell that shares this and the
@@ -432,10 +447,9 @@ fn frozen_objects_stay_where_the_output_fails(rt: HostRuntime) -> Result<(), Fai
 fn clients_run_beside_a_frozen_object(rt: HostRuntime) -> Result<(), Fail> {
     let image = sharing(rt.alloc())?;
     let ran = run_on(rt.alloc(), image.as_slice(), &[COUNT, COUNT])?;
-    leaves(&rt, &ran, "1\n2\n", 208 - 32, 2)?;
     let (old, new) = (image.as_slice(), ran.image.as_slice());
-    equal(new.get(784..816), old.get(784..816)).expect(&rt, "equal");
-    equal(new.get(848..880), old.get(848..880)).expect(&rt, "equal");
+    let is_kept = has_same(old, new, 784) && has_same(old, new, 848);
+    assert!(rt; is_kept && leaves(rt.alloc(), &ran, "1\n2\n", 208 - 32, 2)?);
     Ok(())
 }
 

@@ -1,9 +1,9 @@
 use crate::tests::plays::{Play, play_each};
 use client_vm::Ended;
-use std::process::Abort;
+use std::alloc::Global;
 use std::test::Fail;
 use support_data::{
-    KINDS, MAKE_EACH_KIND, SEQ_FLAT, SegmentKind, equal, is_true, run_anew, statistics_of,
+    KINDS, MAKE_EACH_KIND, SEQ_FLAT, SegmentKind, Statistics, run_anew, statistics_of,
 };
 
 /// Destroys the objects that [`MAKE_EACH_KIND`] made.
@@ -43,29 +43,48 @@ const FREEZE: &str = "UMAKE r0 t8
       OUTI r0
     END";
 
-/// Tests that each line of an output is the code for out of memory. Returns the number of lines.
-fn codes(rt: &impl Abort, out: &[u8]) -> usize {
-    for line in out.chunks(2) {
-        equal(line, b"2\n".as_slice()).expect(rt, "equal");
-    }
-    out.len() / 2
+/// The number of lines of an output, if each is the code for out of memory.
+fn codes(out: &[u8]) -> Option<usize> {
+    let is_code = out.chunks(2).all(|line| line == b"2\n".as_slice());
+    is_code.then_some(out.len() / 2)
 }
 
-/// Makes and destroys an object of each kind in a segment of this many units, after which all memory must be free. Returns how
-/// many requests had no room.
-fn leaves_nothing(
-    rt: &(impl Abort + AllocGlobal),
+/// Whether a segment of this many units is empty.
+fn is_empty(left: Statistics, units: u32) -> bool {
+    left.largest == units.saturating_mul(16).saturating_sub(704)
+        && left.named == 0
+        && left.unique == 0
+}
+
+/// Makes and destroys an object of each kind in a segment of this many units. Returns how many requests had no room, if all memory
+/// is free afterwards.
+fn requests_without_room(
+    alloc: Global,
     texts: &[&str],
     kind: SegmentKind,
     units: u32,
-) -> Result<usize, Fail> {
-    let ran = run_anew(rt.alloc(), units.saturating_mul(16), kind, texts)?;
-    is_true(ran.ended == Ended::Done).expect(rt, "true");
-    let left = statistics_of(rt.alloc(), ran.image.as_slice())?;
-    equal(left.largest, units.saturating_mul(16).saturating_sub(704)).expect(rt, "equal");
-    equal(left.named, 0).expect(rt, "equal");
-    equal(left.unique, 0).expect(rt, "equal");
-    Ok(codes(rt, ran.out.as_slice()))
+) -> Result<Option<usize>, Fail> {
+    let ran = run_anew(alloc, units.saturating_mul(16), kind, texts)?;
+    let left = statistics_of(alloc, ran.image.as_slice())?;
+    if ran.ended == Ended::Done && is_empty(left, units) {
+        Ok(codes(ran.out.as_slice()))
+    } else {
+        Ok(None)
+    }
+}
+
+/// Whether segments of each size are left empty.
+fn leaves_nothing(alloc: Global, texts: &[&str], kind: SegmentKind) -> Result<bool, Fail> {
+    for units in 47..256 {
+        if requests_without_room(alloc, texts, kind, units)?.is_none() {
+            return Ok(false);
+        }
+    }
+    // the object to freeze, six named objects, and the second and the third unique one
+    Ok(
+        requests_without_room(alloc, texts, kind, 46)? == Some(9)
+            && requests_without_room(alloc, texts, kind, 256)? == Some(0),
+    )
 }
 
 /// In a segment of any size each request has room or fails with a code, and all memory is freed at the end; also with a frozen
@@ -77,12 +96,7 @@ fn leaves_nothing_on_each_size(rt: HostRuntime) -> Result<(), Fail> {
     let release = format!(in rt.alloc(); "{TYPES_THAT_SHARE}UKILL r0 t8")?;
     let texts = [freeze.as_str(), make.as_str(), release.as_str()];
     for kind in KINDS {
-        // the object to freeze, six named objects, and the second and the third unique one
-        equal(leaves_nothing(&rt, &texts, kind, 46)?, 9).expect(&rt, "equal");
-        for units in 47..256 {
-            let _ = leaves_nothing(&rt, &texts, kind, units)?;
-        }
-        equal(leaves_nothing(&rt, &texts, kind, 256)?, 0).expect(&rt, "equal");
+        assert!(rt; leaves_nothing(rt.alloc(), &texts, kind)?);
     }
     Ok(())
 }

@@ -4,9 +4,8 @@ use client_trace::{Untraced, trace};
 use client_vm::Through;
 use seg_manager::IndexKind;
 use std::alloc::Global;
-use std::process::Abort;
 use std::test::Fail;
-use support_data::{Limited, SeqFit, client, created, equal, is_true, ready};
+use support_data::{Limited, SeqFit, client, created, front, ready};
 
 /// A vector gets a struct, and the field of the struct the numbers 2 and 1 in a loop. The vector has no item 1. Then an object is
 /// made and destroyed.
@@ -209,32 +208,31 @@ fn traced(
     Ok((out.into_inner().bytes, ended))
 }
 
-fn traces(rt: &(impl Abort + AllocGlobal), text: &str, lines: &str) -> Result<(), Fail> {
-    let (out, ended) = traced(rt.alloc(), text, usize::MAX)?;
-    equal(out.as_slice(), lines.as_bytes()).expect(rt, "equal");
-    is_true(ended == Ok(())).expect(rt, "true");
+/// Whether the trace of a client is these lines.
+fn has_trace(alloc: Global, text: &str, lines: &str) -> Result<bool, Fail> {
+    let (out, ended) = traced(alloc, text, usize::MAX)?;
+    Ok(out.as_slice() == lines.as_bytes() && ended == Ok(()))
+}
+
+// Clients and their traces: steps and output, references, and what is shared.
+static TRACES: [(&str, &str); 3] = [
+    (STORES, STORES_TRACE),
+    (REFERS, REFERS_TRACE),
+    (SHARES, SHARES_TRACE),
+];
+
+#[test]
+fn traces(rt: HostRuntime) -> Result<(), Fail> {
+    for (text, lines) in &TRACES {
+        assert!(rt; has_trace(rt.alloc(), text, lines)?, "{lines}");
+    }
     Ok(())
-}
-
-#[test]
-fn traces_steps_and_output(rt: HostRuntime) -> Result<(), Fail> {
-    traces(&rt, STORES, STORES_TRACE)
-}
-
-#[test]
-fn traces_references(rt: HostRuntime) -> Result<(), Fail> {
-    traces(&rt, REFERS, REFERS_TRACE)
-}
-
-#[test]
-fn traces_what_is_shared(rt: HostRuntime) -> Result<(), Fail> {
-    traces(&rt, SHARES, SHARES_TRACE)
 }
 
 #[test]
 fn cuts_long_paths_and_output(rt: HostRuntime) -> Result<(), Fail> {
     let (out, _) = traced(rt.alloc(), CHAIN, usize::MAX)?;
-    is_true(out.as_slice().ends_with(CHAIN_END.as_bytes())).expect(&rt, "true");
+    assert!(rt; out.as_slice().ends_with(CHAIN_END.as_bytes()));
     Ok(())
 }
 
@@ -242,7 +240,7 @@ fn cuts_long_paths_and_output(rt: HostRuntime) -> Result<(), Fail> {
 #[test]
 fn ends_at_an_output_that_fails(rt: HostRuntime) -> Result<(), Fail> {
     let (out, ended) = traced(rt.alloc(), STORES, 100)?;
-    equal(out.as_slice(), &STORES_TRACE.as_bytes()[..100]).expect(&rt, "equal");
-    is_true(ended == Err(Untraced::OutputFailed)).expect(&rt, "true");
+    let is_cut = out.as_slice() == front(STORES_TRACE.as_bytes(), 100);
+    assert!(rt; is_cut && ended == Err(Untraced::OutputFailed));
     Ok(())
 }
