@@ -1,4 +1,5 @@
 mod allocators;
+mod answers;
 mod blocks;
 mod bytes;
 mod calls;

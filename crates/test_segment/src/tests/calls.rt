@@ -9,22 +9,22 @@
 //!     assign T: good day          the bytes, words or numbers that a call is given, or with which its results are compared
 //!
 //! Without a result, a call must succeed, and not return false or a number. The words before the colon are names, places (capital
-//! letters), types (`t3`) and numbers; a name that has a space is given after the colon. Codes and faults are written as in [`code_of`] and `image.rt`. Each call that only reads is
-//! made on the open image and on a checked image of the same bytes, if they are sound.
+//! letters), types (`t3`) and numbers; a name that has a space is given after the colon. Codes are written as in `answers.rt`, and
+//! the faults of images as in `image.rt`. Each call that only reads is made on the open image and on a checked image of the same
+//! bytes, if they are sound.
 
+use crate::tests::answers::Answer;
 use crate::tests::changing::change;
-use crate::tests::image::is_told;
+use crate::tests::image::type_id;
 use crate::tests::reading::read;
 use crate::tests::support::opened;
-use seg_image::{
-    AllocatorKind, Code, Fault, Fields, Image, IndexKind, Place, Type, TypeId, type_table,
-};
+use seg_image::{AllocatorKind, Fields, Image, IndexKind, Place, Type, TypeId, type_table};
 use std::alloc::Global;
 use std::test::Fail;
-use support_data::{Statement, counter, sharing, statements};
+use support_data::{counter, number, sharing, statements};
 
-/// Both allocators with both indexes.
-const KINDS: [(AllocatorKind, IndexKind); 4] = [
+// Both allocators with both indexes.
+static KINDS: [(AllocatorKind, IndexKind); 4] = [
     (AllocatorKind::Seq, IndexKind::Flat),
     (AllocatorKind::Seq, IndexKind::Tree),
     (AllocatorKind::Best, IndexKind::Flat),
@@ -55,18 +55,6 @@ const UNKNOWN: Place = Place { at: 0, type_id: 31 };
 
 /// The places of the letters from A to Z.
 type Places = [Place; 26];
-
-/// What a call returned, if it wasn't refused.
-#[derive(Debug, Clone, Copy, PartialEq, Eq)]
-pub(crate) enum Value {
-    Done,
-    Flag(bool),
-    Number(i64),
-    Place(Place),
-    Fault(Fault),
-}
-
-pub(crate) type Answer = Result<Value, Code>;
 
 /// A call, with its arguments by what they are. A line has at most one name, type and number, and two places.
 #[derive(Clone, Copy)]
@@ -117,7 +105,7 @@ impl<'a> Call<'a> {
         if let Some(place) = place_of(argument, places) {
             self.other = self.place;
             self.place = place;
-        } else if let Some(t) = type_of(argument) {
+        } else if let Some(t) = type_id(argument) {
             self.t = t;
         } else if let Ok(number) = argument.parse() {
             self.number = Some(number);
@@ -156,32 +144,17 @@ fn place_of(letter: &str, places: &Places) -> Option<Place> {
     places.get(index_of(letter)?).copied()
 }
 
-fn type_of(word: &str) -> Option<TypeId> {
-    word.strip_prefix('t')?.parse().ok()
-}
-
-/// The code that a word describes.
-fn code_of(word: &str) -> Option<Code> {
-    Some(match word {
-        "exists" => Code::AlreadyExists,
-        "memory" => Code::BadAlloc,
-        "absent" => Code::Absent,
-        "type" => Code::OtherType,
-        "range" => Code::OutOfRange,
-        "null" => Code::Null,
-        _ => return None,
-    })
+/// Whether a word is this number.
+pub(crate) fn is_written(word: &str, number: i64) -> bool {
+    word.parse().ok() == Some(number)
 }
 
 /// Whether a call returned what is written.
 fn is_returned(found: Answer, told: &str, places: &Places) -> bool {
     match found {
-        Err(code) => code_of(told) == Some(code),
-        Ok(Value::Done) => told.is_empty(),
-        Ok(Value::Flag(holds)) => told == if holds { "" } else { "no" },
-        Ok(Value::Number(number)) => told.parse() == Ok(number),
-        Ok(Value::Place(place)) => told.is_empty() || place_of(told, places) == Some(place),
-        Ok(Value::Fault(fault)) => is_told(Some(fault), told),
+        Answer::Word(word) => told == word,
+        Answer::Number(number) => is_written(told, number),
+        Answer::Place(place) => told.is_empty() || place_of(told, places) == Some(place),
     }
 }
 
@@ -190,7 +163,7 @@ pub(crate) fn make_calls(alloc: Global, text: &str) -> Result<(), Fail> {
     for statement in statements(alloc, text)? {
         let (word, words) = statement.words.trim().split_once(' ').ok_or("no image")?;
         match word {
-            "new" => on_new(alloc, words, statement)?,
+            "new" => on_new(alloc, words, statement.lines)?,
             _ => Host::open(alloc, words)?.follow(alloc, statement.lines, 0)?,
         }
     }
@@ -198,14 +171,21 @@ pub(crate) fn make_calls(alloc: Global, text: &str) -> Result<(), Fail> {
 }
 
 /// Makes calls on new images of a size, once for each type if there are types.
-fn on_new(alloc: Global, words: &str, statement: Statement) -> Result<(), Fail> {
+fn on_new(alloc: Global, words: &str, lines: &str) -> Result<(), Fail> {
     let (size, types) = words.split_once(' ').unwrap_or((words, "t0"));
-    let size = size.parse().map_err(|_| "no size")?;
+    let size = number(size).ok_or("no size")?;
     for word in types.split_whitespace() {
-        let t = type_of(word).ok_or("no type")?;
-        for (allocator, index) in KINDS {
-            Host::new(alloc, size, allocator, index)?.follow(alloc, statement.lines, t)?;
-        }
+        let t = type_id(word).ok_or("no type")?;
+        on_each_kind(alloc, size, lines, t)?;
+    }
+    Ok(())
+}
+
+/// Makes calls on a new image of each kind, where `t` is this type.
+fn on_each_kind(alloc: Global, size: u32, lines: &str, t: TypeId) -> Result<(), Fail> {
+    for (allocator, index) in &KINDS {
+        let mut host = Host::new(alloc, size, *allocator, *index)?;
+        host.follow(alloc, lines, t)?;
     }
     Ok(())
 }
@@ -264,7 +244,8 @@ impl Host {
             return Err(Fail::new(format_args!("not understood: {line}")));
         };
         if !is_returned(found, call.told, &self.places) {
-            return Err(Fail::new(format_args!("{line}, not {found:?}")));
+            let (word, number) = found.parts();
+            return Err(Fail::new(format_args!("{line}, not {word} {number}")));
         }
         self.keep(found, call.target);
         Ok(())
@@ -272,7 +253,7 @@ impl Host {
 
     /// Gives a place to a letter.
     fn keep(&mut self, found: Answer, target: Option<usize>) {
-        if let (Ok(Value::Place(place)), Some(index)) = (found, target) {
+        if let (Answer::Place(place), Some(index)) = (found, target) {
             if let Some(slot) = self.places.get_mut(index) {
                 *slot = place;
             }

@@ -1,37 +1,28 @@
 //! The calls that may change an image, and those on its bytes.
 
-use crate::tests::calls::{Answer, Call, Value};
+use crate::tests::answers::{Answer, count, done, flag, place, size, size_of};
+use crate::tests::calls::Call;
 use crate::tests::image::is_told;
-use crate::tests::reading::wide;
 use crate::tests::support::opened;
 use crate::tests::tiles::are_live;
-use seg_image::{CheckedImage, Code, Image, ImageRead, Place, check};
+use seg_image::{CheckedImage, Code, Fault, Image, ImageRead, Place, check};
 use seg_value::{set_own, take_own};
 use std::alloc::Global;
 use support_data::{counter_saved, sharing};
-
-fn done(found: Result<(), Code>) -> Answer {
-    found?;
-    Ok(Value::Done)
-}
-
-fn place(found: Result<Place, Code>) -> Answer {
-    Ok(Value::Place(found?))
-}
 
 /// Makes a call. Returns `None` if there is no such call.
 pub(crate) fn change(alloc: Global, image: &mut Image<Global>, call: &Call) -> Option<Answer> {
     Some(match call.word {
         "construct" => place(image.construct(call.name, call.t, call.count())),
         "find_or_construct" => place(image.find_or_construct(call.name, call.t)),
-        "destroy" => Ok(Value::Flag(image.destroy(call.name, call.t))),
+        "destroy" => flag(image.destroy(call.name, call.t)),
         "construct_unique" => place(image.construct_unique(call.t)),
         "find_or_construct_unique" => place(image.find_or_construct_unique(call.t)),
-        "destroy_unique" => Ok(Value::Flag(image.destroy_unique(call.t))),
+        "destroy_unique" => flag(image.destroy_unique(call.t)),
         "construct_anonymous" => place(image.construct_anonymous(call.t)),
         "destroy_anonymous" => {
             image.destroy_anonymous(call.place);
-            Ok(Value::Done)
+            done(Ok(()))
         }
         _ => return change_values(alloc, image, call),
     })
@@ -62,7 +53,7 @@ fn change_containers(alloc: Global, image: &mut Image<Global>, call: &Call) -> O
         "pop_front" => done(image.pop_front(call.place)),
         "shrink_to_fit" => done(image.shrink_to_fit(call.place)),
         "put" => place(image.put(call.place, call.long())),
-        "remove" => Ok(Value::Flag(image.remove(call.place, call.long()))),
+        "remove" => flag(image.remove(call.place, call.long())),
         "next" => neighbour(seg_seq::next(image, call.place.at), call),
         "previous" => neighbour(seg_seq::previous(image, call.place.at), call),
         _ => return change_memory(alloc, image, call),
@@ -70,36 +61,32 @@ fn change_containers(alloc: Global, image: &mut Image<Global>, call: &Call) -> O
 }
 
 fn change_memory(alloc: Global, image: &mut Image<Global>, call: &Call) -> Option<Answer> {
-    Some(Ok(match call.word {
-        "size" => number(image.size()),
-        "free_memory" => number(image.free_memory()),
-        "largest_gap" => number(image.largest_gap()),
-        "shrink" => number(image.shrink()),
+    Some(match call.word {
+        "size" => size_of(image.size()),
+        "free_memory" => size_of(image.free_memory()),
+        "largest_gap" => size_of(image.largest_gap()),
+        "shrink" => size_of(image.shrink()),
         "grow" => grow(image, call),
         "zero_free_memory" => {
             image.zero_free_memory();
-            Value::Done
+            done(Ok(()))
         }
-        "all_memory_deallocated" => Value::Flag(image.all_memory_deallocated()),
+        "all_memory_deallocated" => flag(image.all_memory_deallocated()),
         _ => return on_bytes(alloc, image, call),
-    }))
+    })
 }
 
 /// Calls on the bytes of an image, and comparisons of its blocks and places.
 fn on_bytes(alloc: Global, image: &mut Image<Global>, call: &Call) -> Option<Answer> {
-    Some(Ok(match call.word {
-        "types" => Value::Number(wide(image.types().len())),
-        "fault" => Value::Flag(has_fault(alloc, image.bytes(), call.text)),
-        "reopen" => Value::Flag(reopen(alloc, image)?),
-        "saves" => Value::Flag(saves(alloc, image, call.text)?),
-        "blocks" => Value::Flag(are_live(image.window(), call.text)),
-        "distance" => number(call.place.at.wrapping_sub(call.other.at)),
+    Some(match call.word {
+        "types" => count(image.types().len()),
+        "fault" => flag(has_fault(alloc, image.bytes(), call.text)),
+        "reopen" => flag(reopen(alloc, image)?),
+        "saves" => flag(saves(alloc, image, call.text)?),
+        "blocks" => flag(are_live(image.window(), call.text)),
+        "distance" => size_of(call.place.at.wrapping_sub(call.other.at)),
         _ => return None,
-    }))
-}
-
-fn number(found: u32) -> Value {
-    Value::Number(i64::from(found))
+    })
 }
 
 /// Whether this is the fault of an image, also if it is opened only for reading.
@@ -114,7 +101,7 @@ fn give(image: &mut Image<Global>, own: Place, object: Place) -> Answer {
         Image::Seq(segment) => set_own(segment.heap_mut(), own, object.at),
         Image::Best(segment) => set_own(segment.heap_mut(), own, object.at),
     }
-    Ok(Value::Done)
+    done(Ok(()))
 }
 
 /// Takes the object out of an own. Returns its position.
@@ -123,24 +110,25 @@ fn take(image: &mut Image<Global>, own: Place) -> Answer {
         Image::Seq(segment) => take_own(segment.heap_mut(), own),
         Image::Best(segment) => take_own(segment.heap_mut(), own),
     };
-    Ok(number(object.ok_or(Code::Null)?))
+    size(object.ok_or(Code::Null))
 }
 
-fn grow(image: &mut Image<Global>, call: &Call) -> Value {
+/// Makes an image larger. Returns its size.
+fn grow(image: &mut Image<Global>, call: &Call) -> Answer {
     match image.grow(call.size()) {
-        Ok(size) => number(size),
-        Err(fault) => Value::Fault(fault),
+        Ok(size) => size_of(size),
+        Err(Fault::BadSize) => Answer::Word("size"),
+        Err(_) => Answer::Word("fault"),
     }
 }
 
 /// Adds a byte to a text. Returns its length.
 fn push_byte(image: &mut Image<Global>, call: &Call) -> Answer {
     let byte = u8::try_from(call.size()).unwrap_or(0);
-    let len = match image {
-        Image::Seq(segment) => seg_seq::push_byte(segment.heap_mut(), call.place, byte)?,
-        Image::Best(segment) => seg_seq::push_byte(segment.heap_mut(), call.place, byte)?,
-    };
-    Ok(number(len))
+    size(match image {
+        Image::Seq(segment) => seg_seq::push_byte(segment.heap_mut(), call.place, byte),
+        Image::Best(segment) => seg_seq::push_byte(segment.heap_mut(), call.place, byte),
+    })
 }
 
 /// Pushes the numbers of the call's text onto a vector.
@@ -154,10 +142,8 @@ fn push_numbers(image: &mut Image<Global>, call: &Call) -> Result<(), Code> {
 
 /// The item beside an item of a list.
 fn neighbour(at: u32, call: &Call) -> Answer {
-    Ok(Value::Place(Place {
-        at,
-        type_id: call.place.type_id,
-    }))
+    let type_id = call.place.type_id;
+    Answer::Place(Place { at, type_id })
 }
 
 /// Opens the bytes of an image as the image. Returns whether they are sound.

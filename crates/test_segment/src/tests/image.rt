@@ -21,12 +21,6 @@ use std::alloc::Global;
 use std::test::Fail;
 use support_data::{change, number};
 
-/// The kinds of types, as in their entries. There is no type of the last kind.
-const TYPE_KINDS: &str = "unused i64 str vec list flat_map map own struct shared unknown";
-
-/// The kinds of blocks, as in their tags.
-const BLOCK_KINDS: &str = "gap named object buffer node index index_node frozen";
-
 /// The bit of a header's first word that is set if the block is allocated.
 const LIVE: u32 = 1 << 31;
 
@@ -204,7 +198,7 @@ impl ImageBuilder {
 pub(crate) fn entry_of(words: &str) -> Option<[u8; ENTRY]> {
     let mut words = words.split_whitespace();
     let mut entry = [0; ENTRY];
-    entry[0] = index_of(TYPE_KINDS, words.next()?)?;
+    entry[0] = type_kind(words.next()?)?;
     for part in words {
         let parts = entry[1];
         *entry.get_mut(usize::from(parts) + 2)? = type_id(part)?;
@@ -213,25 +207,44 @@ pub(crate) fn entry_of(words: &str) -> Option<[u8; ENTRY]> {
     Some(entry)
 }
 
-/// The tag of an allocated block. A `unique` is an object too.
+/// The kind of a type, as in its entry. There is no type of the last kind.
+fn type_kind(word: &str) -> Option<u8> {
+    Some(match word {
+        "unused" => 0,
+        "i64" => 1,
+        "str" => 2,
+        "vec" => 3,
+        "list" => 4,
+        "flat_map" => 5,
+        "map" => 6,
+        "own" => 7,
+        "struct" => 8,
+        "shared" => 9,
+        "unknown" => 10,
+        _ => return None,
+    })
+}
+
+/// The tag of an allocated block.
 fn tag_of(kind: &str, t: u8) -> Option<u32> {
-    let kind = if kind == "unique" { "object" } else { kind };
-    Some(u32::from(index_of(BLOCK_KINDS, kind)?) + 256 * u32::from(t))
+    Some(u32::from(block_kind(kind)?) + 256 * u32::from(t))
 }
 
-/// The index of a word in a list.
-fn index_of(list: &str, word: &str) -> Option<u8> {
-    let mut index = 0u8;
-    for it in list.split(' ') {
-        if it == word {
-            return Some(index);
-        }
-        index = index.saturating_add(1);
-    }
-    None
+/// The kind of an allocated block, as in its tag. A `unique` is an object too.
+fn block_kind(word: &str) -> Option<u8> {
+    Some(match word {
+        "named" => 1,
+        "object" | "unique" => 2,
+        "buffer" => 3,
+        "node" => 4,
+        "index" => 5,
+        "index_node" => 6,
+        "frozen" => 7,
+        _ => return None,
+    })
 }
 
-fn type_id(word: &str) -> Option<u8> {
+pub(crate) fn type_id(word: &str) -> Option<u8> {
     word.strip_prefix('t')?.parse().ok()
 }
 

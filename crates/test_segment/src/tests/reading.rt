@@ -1,7 +1,8 @@
 //! The calls that only read an image.
 
-use crate::tests::calls::{Answer, Call, Value};
-use seg_image::{CheckedImage, Code, Image, ImageRead, Named, Place};
+use crate::tests::answers::{Answer, count, flag, flag_or_code, number, place, size};
+use crate::tests::calls::{Call, is_written};
+use seg_image::{CheckedImage, Code, Image, ImageRead, Named};
 use std::alloc::Global;
 
 /// Makes a call on an open image, and on a checked image with the same bytes and its reader, if they are sound. Returns `None` if the
@@ -9,7 +10,7 @@ use std::alloc::Global;
 pub(crate) fn read(alloc: Global, image: &Image<Global>, call: &Call) -> Option<Answer> {
     let found = read_objects(image, call)?;
     match CheckedImage::open(alloc, image.bytes()) {
-        Ok(checked) if !reads_the_same(&checked, call, found) => Some(Ok(Value::Flag(false))),
+        Ok(checked) if !reads_the_same(&checked, call, found) => Some(flag(false)),
         _ => Some(found),
     }
 }
@@ -20,42 +21,17 @@ fn reads_the_same(checked: &CheckedImage, call: &Call, found: Answer) -> bool {
         && read_objects(&checked.reader(), call) == Some(found)
 }
 
-fn place(found: Result<Place, Code>) -> Answer {
-    Ok(Value::Place(found?))
-}
-
-fn number(found: Result<i64, Code>) -> Answer {
-    Ok(Value::Number(found?))
-}
-
-fn size(found: Result<u32, Code>) -> Answer {
-    Ok(Value::Number(i64::from(found?)))
-}
-
-/// The number of types or of objects.
-pub(crate) fn wide(count: usize) -> i64 {
-    i64::try_from(count).unwrap_or(i64::MAX)
-}
-
-fn flag(found: Result<bool, Code>) -> Answer {
-    Ok(Value::Flag(found?))
-}
-
 fn read_objects<S: ImageRead>(image: &S, call: &Call) -> Option<Answer> {
     Some(match call.word {
         "find" => place(image.find(call.name, call.t)),
         "find_item" => place(image.find_item(call.name, call.t, call.size())),
         "find_unique" => place(image.find_unique(call.t)),
-        "count" => count(ImageRead::count(image, call.name, call.t)),
-        "num_unique" => Ok(Value::Number(wide(image.num_unique()))),
-        "names" => Ok(Value::Flag(are_named(image, call.text))),
-        "is_named" => Ok(Value::Flag(image.named_object(call.name).is_some())),
+        "count" => size(ImageRead::count(image, call.name, call.t).map(|count| u32::from(count))),
+        "num_unique" => count(image.num_unique()),
+        "names" => flag(are_named(image, call.text)),
+        "is_named" => flag(image.named_object(call.name).is_some()),
         _ => return read_values(image, call),
     })
-}
-
-fn count(found: Result<u16, Code>) -> Answer {
-    Ok(Value::Number(i64::from(found?)))
 }
 
 fn read_values<S: ImageRead>(image: &S, call: &Call) -> Option<Answer> {
@@ -64,11 +40,11 @@ fn read_values<S: ImageRead>(image: &S, call: &Call) -> Option<Answer> {
         "field" => place(image.field(call.place, call.size())),
         "content" => place(ImageRead::content(image, call.place)),
         "frozen" => place(image.frozen(call.place)),
-        "text" => flag(is_text(image.text(call.place), call.text)),
+        "text" => flag_or_code(is_text(image.text(call.place), call.text)),
         "len" => size(ImageRead::len(image, call.place)),
         "item" => place(image.item(call.place, call.size())),
-        "items" => flag(are_items(image, call)),
-        "number_bytes" => flag(are_bytes(image.number_bytes(call.place), call.text)),
+        "items" => flag_or_code(are_items(image, call)),
+        "number_bytes" => flag_or_code(are_bytes(image.number_bytes(call.place), call.text)),
         _ => return read_maps(image, call),
     })
 }
@@ -80,8 +56,8 @@ fn read_maps<S: ImageRead>(image: &S, call: &Call) -> Option<Answer> {
         "last_key" => number(image.last_key(call.place)),
         "next_key" => number(image.next_key(call.place, call.long())),
         "previous_key" => number(image.previous_key(call.place, call.long())),
-        "keys" => flag(are_keys(image, call)),
-        "entries" => flag(are_entries(image, call)),
+        "keys" => flag_or_code(are_keys(image, call)),
+        "entries" => flag_or_code(are_entries(image, call)),
         _ => return None,
     })
 }
@@ -106,7 +82,7 @@ fn are_bytes(found: Result<&[u8], Code>, text: &str) -> Result<bool, Code> {
 /// Whether the word at a position of a text is this number.
 fn is_word(text: &str, index: usize, number: i64) -> bool {
     match text.split_whitespace().nth(index) {
-        Some(word) => word.parse() == Ok(number),
+        Some(word) => is_written(word, number),
         None => false,
     }
 }
@@ -161,8 +137,8 @@ fn is_named(named: Named, word: &str) -> bool {
     };
     let (t, count) = rest.split_once('/').unwrap_or((rest, "1"));
     named.name == name.as_bytes()
-        && t.parse() == Ok(named.type_id)
-        && count.parse() == Ok(named.count)
+        && is_written(t, i64::from(named.type_id))
+        && is_written(count, i64::from(named.count))
 }
 
 /// Whether exactly these names are in the index, in this order.

@@ -3,12 +3,13 @@
 use seg_block::{HEAP_START, UNIT, block_at, is_live};
 use seg_manager::Window;
 use std::alloc::Global;
+use support_data::number;
 
 /// The rest of a text after its first word, if that is this block: its position and its units, as `704/2`.
 fn after_block(text: &str, at: u32, units: u32) -> Option<&str> {
     let (word, rest) = text.split_once(' ').unwrap_or((text, ""));
     let (told_at, told_units) = word.split_once('/')?;
-    (told_at.parse() == Ok(at) && told_units.parse() == Ok(units)).then_some(rest)
+    (number(told_at) == Some(at) && number(told_units) == Some(units)).then_some(rest)
 }
 
 /// Whether the words of a text are the allocated blocks, in order.
