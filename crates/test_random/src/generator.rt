@@ -1,6 +1,6 @@
 //! Random clients. Most are accepted, because the generator knows which references are still valid.
 
-use crate::client_text::ClientText;
+use crate::lines::Lines;
 use crate::parts::{Access, OpenPart};
 use std::alloc::{AllocError, Global};
 use support_data::Random;
@@ -62,7 +62,7 @@ const DEPTH: usize = 7;
 #[derive(Drop)]
 pub(crate) struct Generator {
     version: Version,
-    pub(crate) text: ClientText,
+    pub(crate) text: Lines,
     pub(crate) parts: Vec<OpenPart>,
     pub(crate) random: Random,
     pub(crate) classes: usize,
@@ -72,7 +72,7 @@ impl Generator {
     pub(crate) fn new(alloc: Global, version: Version, seed: u64) -> Generator {
         Generator {
             version,
-            text: ClientText::new(alloc),
+            text: Lines::new(alloc),
             parts: Vec::new(alloc),
             random: Random::new(seed),
             classes: 100,

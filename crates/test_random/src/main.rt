@@ -5,10 +5,10 @@
 mod abstract_openers;
 mod abstract_plain;
 mod abstract_run;
-mod client_text;
 mod containers;
 mod counts;
 mod generator;
+mod lines;
 mod model;
 mod objects;
 mod owners;

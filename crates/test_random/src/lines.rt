@@ -5,14 +5,14 @@ use std::alloc::{AllocError, Global};
 
 /// A text. After memory was refused once, nothing more is written, and the text can't be finished.
 #[derive(Drop)]
-pub(crate) struct ClientText {
+pub(crate) struct Lines {
     text: String,
     written: Result<(), AllocError>,
 }
 
-impl ClientText {
-    pub(crate) fn new(alloc: Global) -> ClientText {
-        ClientText {
+impl Lines {
+    pub(crate) fn new(alloc: Global) -> Lines {
+        Lines {
             text: String::new(alloc),
             written: Ok(()),
         }
