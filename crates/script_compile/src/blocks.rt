@@ -2,27 +2,27 @@
 
 use crate::compiler::{Compiler, Construct, ConstructKind};
 use script_code::{ErrorKind, Register, append};
-use script_syntax::{Block, Range, Span, Statement, StatementKind};
+use script_syntax::{Block, Range, Span, Statement, StatementKind, Tree};
 use script_values::{Sequence, Task};
 
 /// No statements.
 const EMPTY: Range = Range { first: 0, end: 0 };
 
-impl Compiler<'_> {
-    pub fn begin_main(&mut self) {
+impl Compiler {
+    pub fn begin_main(&mut self, tree: &Tree<'_>) {
         self.push_construct(ConstructKind::Main);
-        self.start_main()
+        self.start_main(tree)
     }
 
-    fn start_main(&mut self) {
+    fn start_main(&mut self, tree: &Tree<'_>) {
         self.start_running();
-        let body = self.emitter.tree.body();
+        let body = tree.body();
         self.emitter.then(&[Task::Block(body), Task::EndMain])
     }
 
-    pub fn end_main(&mut self) {
+    pub fn end_main(&mut self, tree: &Tree<'_>) {
         if self.restart_running() {
-            return self.start_main();
+            return self.start_main(tree);
         }
         let _ = self.constructs.pop();
     }
@@ -108,7 +108,7 @@ impl Compiler<'_> {
     }
 
     /// Compiles the next statement of a sequence.
-    pub fn next_statement(&mut self, sequence: Sequence) {
+    pub fn next_statement(&mut self, tree: &Tree<'_>, sequence: Sequence) {
         let mut rest = sequence;
         if rest.now.is_empty() {
             if rest.later.is_empty() {
@@ -121,7 +121,6 @@ impl Compiler<'_> {
             rest.now = rest.later;
             rest.later = EMPTY;
         }
-        let tree = self.emitter.tree;
         let Some(statement) = tree.statements(rest.now).first().copied() else {
             self.rest = None;
             return;
@@ -147,9 +146,15 @@ impl Compiler<'_> {
 
     /// Continues a sequence. If the last statement may have left, what follows runs only if it
     /// didn't. If a part of it was put off, what follows is put off too.
-    pub fn after_statement(&mut self, rest: Sequence, exits: usize, deferred: usize) {
+    pub fn after_statement(
+        &mut self,
+        tree: &Tree<'_>,
+        rest: Sequence,
+        exits: usize,
+        deferred: usize,
+    ) {
         if self.deferred.len() > deferred && !rest.is_empty() {
-            return self.defer(rest);
+            return self.defer(tree, rest);
         }
         if rest.is_empty() || self.exits() <= exits {
             return self.emitter.then(&[Task::Sequence(rest)]);

@@ -2,13 +2,18 @@
 
 use crate::compiler::{Compiler, Construct, ConstructKind};
 use script_code::{About, ErrorKind, Function};
-use script_syntax::{ExpressionAt, ExpressionKind, Range, Span, Statement};
+use script_syntax::{ExpressionAt, ExpressionKind, Range, Span, Statement, Tree};
 use script_values::Task;
 
-impl Compiler<'_> {
+impl Compiler {
     /// A call of a function, or of a method.
-    pub fn begin_call_statement(&mut self, statement: Statement, at: ExpressionAt) {
-        let Some(expression) = self.emitter.tree.expression(at) else {
+    pub fn begin_call_statement(
+        &mut self,
+        tree: &Tree<'_>,
+        statement: Statement,
+        at: ExpressionAt,
+    ) {
+        let Some(expression) = tree.expression(at) else {
             return;
         };
         match expression.kind {
@@ -16,23 +21,24 @@ impl Compiler<'_> {
                 if statement.otherwise.is_some() {
                     return self.emitter.error(statement.span, ErrorKind::CALL_ELSE);
                 }
-                self.begin_call(at, expression.span, arguments, false)
+                self.begin_call(tree, at, expression.span, arguments, false)
             }
-            _ => self.emitter.begin_method(at, statement, false),
+            _ => self.emitter.begin_method(tree, at, statement, false),
         }
     }
 
     /// Works out the arguments of a call, and then the call.
     pub fn begin_call(
         &mut self,
+        tree: &Tree<'_>,
         at: ExpressionAt,
         span: Span,
         arguments: Range,
         wants_value: bool,
     ) {
-        let word = self.emitter.word(span);
-        let Some(position) = self.emitter.program.function_named(self.emitter.tree, word) else {
-            let near = self.emitter.near_function(word);
+        let word = tree.word(span);
+        let Some(position) = self.emitter.program.function_named(tree, word) else {
+            let near = self.emitter.near_function(tree, word);
             return self
                 .emitter
                 .error_about(span, ErrorKind::NO_FUNCTION, About::near(near));
@@ -43,7 +49,7 @@ impl Compiler<'_> {
         if self.is_running(position) {
             return self.emitter.error(span, ErrorKind::RECURSION);
         }
-        if !self.emitter.takes(function, span, arguments) {
+        if !self.emitter.takes(tree, function, span, arguments) {
             return;
         }
         if wants_value && !function.gives_number {
@@ -52,7 +58,7 @@ impl Compiler<'_> {
         let here = self.emitter.code.span;
         self.emitter
             .then(&[Task::Call(position, at, wants_value), Task::At(here)]);
-        self.emitter.begin_arguments(function, arguments)
+        self.emitter.begin_arguments(tree, function, arguments)
     }
 
     /// Whether a function is being compiled.
@@ -68,13 +74,13 @@ impl Compiler<'_> {
     }
 
     /// Begins a function whose arguments are worked out.
-    pub fn call(&mut self, position: usize, at: ExpressionAt, wants_value: bool) {
+    pub fn call(&mut self, tree: &Tree<'_>, position: usize, at: ExpressionAt, wants_value: bool) {
         let Some(function) = self.emitter.program.functions.get(position).copied() else {
             return self.emitter.skip();
         };
         let (names, base) = (self.emitter.names.len(), self.emitter.names.base);
         let held = self.emitter.hold_temporaries();
-        self.emitter.bind_parameters(function, at);
+        self.emitter.bind_parameters(tree, function, at);
         self.emitter.names.base = names;
         let result = match function.gives_number {
             true => Some(self.emitter.code.literal_held(0)),

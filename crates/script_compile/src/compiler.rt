@@ -98,8 +98,8 @@ pub struct Translation {
 }
 
 #[derive(Drop)]
-pub struct Compiler<'t> {
-    pub emitter: Emitter<'t>,
+pub struct Compiler {
+    pub emitter: Emitter,
     pub constructs: Vec<Construct>,
     /// The statements that a guarded sequence left.
     pub rest: Option<Sequence>,
@@ -112,10 +112,10 @@ pub struct Compiler<'t> {
     variables: Variables,
 }
 
-impl<'t> Compiler<'t> {
-    pub fn new(alloc: Global, tree: &'t Tree<'t>, program: Program, code: Code) -> Self {
+impl Compiler {
+    pub fn new(alloc: Global, program: Program, code: Code) -> Self {
         Compiler {
-            emitter: Emitter::new(alloc, tree, program, code),
+            emitter: Emitter::new(alloc, program, code),
             constructs: Vec::new(alloc),
             rest: None,
             nests: Vec::new(alloc),
@@ -129,7 +129,7 @@ impl<'t> Compiler<'t> {
     }
 }
 
-impl<'t> Compiler<'t> {
+impl Compiler {
     /// The client with these parts, or why it has none.
     pub fn finish(self, linked: Linked) -> Result<Translation, Failure> {
         if self.has_failed() {
@@ -199,24 +199,24 @@ impl<'t> Compiler<'t> {
     }
 
     /// Reads the program's declarations, and compiles its statements.
-    pub fn run(&mut self) {
-        self.emitter.declare();
+    pub fn run(&mut self, tree: &Tree<'_>) {
+        self.emitter.declare(tree);
         if !self.emitter.passes_limit() {
-            self.do_tasks();
+            self.do_tasks(tree);
         }
-        self.warn_unused()
+        self.warn_unused(tree)
     }
 
-    fn do_tasks(&mut self) {
-        self.begin_main();
+    fn do_tasks(&mut self, tree: &Tree<'_>) {
+        self.begin_main(tree);
         for _ in 0..MOST_TASKS {
             let Some(task) = self.emitter.tasks.pop() else {
                 return;
             };
             self.note_variables();
-            self.perform(task);
+            self.perform(tree, task);
             if self.emitter.code.trouble.is_set() {
-                self.recover();
+                self.recover(tree);
             }
             if self.emitter.code.instructions.len() > MOST_EMITTED
                 || self.emitter.code.trouble.is_out_of_memory
@@ -228,25 +228,25 @@ impl<'t> Compiler<'t> {
     }
 
     /// Continues after a task that failed.
-    fn recover(&mut self) {
+    fn recover(&mut self, tree: &Tree<'_>) {
         match self.emitter.code.trouble.take() {
-            Some(Problem::Error(error)) if error.kind.is_limit() => self.avoid_limit(error),
+            Some(Problem::Error(error)) if error.kind.is_limit() => self.avoid_limit(tree, error),
             Some(Problem::Error(error)) => {
                 self.emitter.report(error);
-                self.skip_statement();
+                self.skip_statement(tree);
             }
-            _ => self.skip_statement(),
+            _ => self.skip_statement(tree),
         }
     }
 
     /// After a statement that passes a limit: lists what is alive there, and if it is too deep,
     /// continues in another way.
-    fn avoid_limit(&mut self, error: Error) {
+    fn avoid_limit(&mut self, tree: &Tree<'_>, error: Error) {
         let is_first = self.emitter.errors.is_empty();
         if is_first {
             self.list_alive(error.kind.class);
         }
-        if error.kind.class == ErrorClass::Depth && self.avoid_depth() {
+        if error.kind.class == ErrorClass::Depth && self.avoid_depth(tree) {
             if is_first {
                 self.emitter.alive.clear();
             }
@@ -258,18 +258,18 @@ impl<'t> Compiler<'t> {
             self.emitter.tasks.clear();
             return;
         }
-        self.skip_statement();
+        self.skip_statement(tree);
     }
 
     /// Compiles a statement around this one in another way, or puts this one off. Returns false if
     /// neither is possible.
-    fn avoid_depth(&mut self) -> bool {
+    fn avoid_depth(&mut self, tree: &Tree<'_>) -> bool {
         let found = match self.choices.pop() {
             Some(choice) => {
                 self.flatten(choice);
                 true
             }
-            None => self.defer_statement(),
+            None => self.defer_statement(tree),
         };
         found && self.emitter.code.trouble.take().is_none()
     }
@@ -293,7 +293,7 @@ impl<'t> Compiler<'t> {
 
     /// After an error in a statement, compiles the blocks in it for their own errors. The name which
     /// the statement gives is unknown in them, and after it.
-    fn skip_statement(&mut self) {
+    fn skip_statement(&mut self, tree: &Tree<'_>) {
         let Some(StatementMark { mark, statement }) = self.statements.pop() else {
             self.emitter.tasks.clear();
             return;
@@ -311,11 +311,11 @@ impl<'t> Compiler<'t> {
             };
         };
         self.emitter.then(&[Task::Body(block, names, true)]);
-        self.bind_unknown(statement)
+        self.bind_unknown(tree, statement)
     }
 
     /// Binds the names of a statement with an error.
-    fn bind_unknown(&mut self, statement: Statement) {
+    fn bind_unknown(&mut self, tree: &Tree<'_>, statement: Statement) {
         match statement.kind {
             StatementKind::Let { name, .. } | StatementKind::IfLet { name, .. } => {
                 self.emitter.bind(name, Meaning::Unknown)
@@ -327,7 +327,6 @@ impl<'t> Compiler<'t> {
                 self.emitter.bind(name, Meaning::Unknown)
             }
             StatementKind::Use(held) => {
-                let tree = self.emitter.tree;
                 for held in tree.held(held) {
                     if let Some(name) = held.name {
                         self.emitter.bind(name, Meaning::Unknown);
@@ -467,10 +466,10 @@ impl<'t> Compiler<'t> {
     }
 
     /// Warns of each name which isn't used.
-    fn warn_unused(&mut self) {
+    fn warn_unused(&mut self, tree: &Tree<'_>) {
         for at in 0..self.seen.len() {
             if let Some(seen) = self.seen.get(at).copied() {
-                self.warn_seen(seen);
+                self.warn_seen(tree, seen);
             }
         }
         for at in 0..self.emitter.program.objects.len() {
@@ -483,10 +482,10 @@ impl<'t> Compiler<'t> {
     }
 }
 
-impl Compiler<'_> {
+impl Compiler {
     /// Warns of a name which isn't used, unless it begins with `_`.
-    fn warn_seen(&mut self, seen: Seen) {
-        if !seen.is_used && !self.emitter.word(seen.span).starts_with(b"_") {
+    fn warn_seen(&mut self, tree: &Tree<'_>, seen: Seen) {
+        if !seen.is_used && !tree.word(seen.span).starts_with(b"_") {
             self.emitter.warn(seen.span, WarningKind::Unused);
         }
     }

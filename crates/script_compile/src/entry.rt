@@ -44,8 +44,8 @@ pub fn translate(
     let Ok(program) = new_program(alloc) else {
         return Err(Failure::Memory);
     };
-    let mut compiler = Compiler::new(alloc, tree, program, Code::new(alloc, NOWHERE));
-    compiler.run();
+    let mut compiler = Compiler::new(alloc, program, Code::new(alloc, NOWHERE));
+    compiler.run(tree);
     if compiler.has_failed() {
         return Err(compiler.into_failure());
     }

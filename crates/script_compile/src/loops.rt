@@ -2,10 +2,10 @@
 
 use crate::compiler::{Compiler, Construct, ConstructKind};
 use script_code::{COUNT, ErrorKind, Known, Register, append};
-use script_syntax::ExpressionAt;
+use script_syntax::{ExpressionAt, Tree};
 use script_values::{Loop, Task, Turn};
 
-impl Compiler<'_> {
+impl Compiler {
     /// Begins a loop whose first test is done.
     pub fn begin_loop(&mut self, found: Loop) {
         self.emitter.code.usage.tidy();
@@ -33,7 +33,7 @@ impl Compiler<'_> {
     }
 
     /// Continues to the next turn, unless the loop was left.
-    pub fn next_turn(&mut self, found: Loop) {
+    pub fn next_turn(&mut self, tree: &Tree<'_>, found: Loop) {
         self.emitter.code.usage.tidy();
         self.emitter.code.span = found.statement.span;
         if self.breaks() > 0 {
@@ -47,15 +47,15 @@ impl Compiler<'_> {
                 self.emitter.test_index(found.go, index, end)
             }
             Turn::Items { place, key } => self.emitter.next_item(&place, key, found.go),
-            Turn::While(condition) => self.test_again(condition, found.go),
+            Turn::While(condition) => self.test_again(tree, condition, found.go),
         }
     }
 
     /// Works out the condition of another turn. What it calls may stop the program, while a statement
     /// before it may have left the turn.
-    fn test_again(&mut self, condition: ExpressionAt, go: Register) {
+    fn test_again(&mut self, tree: &Tree<'_>, condition: ExpressionAt, go: Register) {
         if let Some(running) = self.running() {
-            if self.emitter.has_call(condition) {
+            if self.emitter.has_call(tree, condition) {
                 self.emitter.code.number(running, 1);
             }
         }

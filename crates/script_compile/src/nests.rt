@@ -4,7 +4,7 @@
 use crate::compiler::{Compiler, Mark};
 use client_code::Operation;
 use script_code::{COUNT, ErrorKind, Key, Meaning, NOWHERE, Name, Place, Register, Root, append};
-use script_syntax::{Span, Statement};
+use script_syntax::{Span, Statement, Tree};
 use script_values::{Sequence, Task};
 
 /// What a nest begins with.
@@ -85,7 +85,7 @@ impl Copies {
     }
 }
 
-impl Compiler<'_> {
+impl Compiler {
     /// Begins a nest here.
     pub fn begin_nest(&mut self, kind: NestKind) {
         let nest = Nest {
@@ -251,7 +251,7 @@ impl Compiler<'_> {
 
     /// Puts off the innermost statement that is less deep after its nest, and what follows it.
     /// Returns false if there is nothing to put off.
-    pub fn defer_statement(&mut self) -> bool {
+    pub fn defer_statement(&mut self, tree: &Tree<'_>) -> bool {
         let Some(mark) = self.deferrable() else {
             return false;
         };
@@ -261,7 +261,7 @@ impl Compiler<'_> {
         };
         let mut tail = rest;
         tail.now.first = rest.now.first.saturating_sub(1);
-        self.defer(tail);
+        self.defer(tree, tail);
         true
     }
 
@@ -280,7 +280,7 @@ impl Compiler<'_> {
     }
 
     /// Puts statements off to the end of the innermost nest.
-    pub fn defer(&mut self, tail: Sequence) {
+    pub fn defer(&mut self, tree: &Tree<'_>, tail: Sequence) {
         let Some(nest) = self.nests.last().copied() else {
             return;
         };
@@ -289,14 +289,14 @@ impl Compiler<'_> {
             return self.restart_nest(nest);
         };
         self.emitter.code.number(flag, 1);
-        let start = self.tail_start(&tail);
-        let used = self.used_registers(nest.mark.emitter.names, start);
+        let start = tail_start(tree, &tail);
+        let used = self.used_registers(tree, nest.mark.emitter.names, start);
         let Some(copies) = self.copy_registers(&nest, &used) else {
             return self.restart_nest(nest);
         };
         let first = self.kept.len();
         for at in nest.mark.emitter.names..self.emitter.names.len() {
-            self.keep_name(at, start, &copies);
+            self.keep_name(tree, at, start, &copies);
         }
         let end = self.kept.len();
         let deferred = Deferred {
@@ -331,23 +331,12 @@ impl Compiler<'_> {
         Some(nest.reserved[taken])
     }
 
-    /// The position where the first of these statements is in the text.
-    fn tail_start(&self, tail: &Sequence) -> usize {
-        let tree = self.emitter.tree;
-        let now = tree.statements(tail.now).first();
-        let later = tree.statements(tail.later).first();
-        match (now, later) {
-            (Some(statement), _) | (None, Some(statement)) => statement.span.start,
-            (None, None) => tree.text().len(),
-        }
-    }
-
     /// The registers that names need, from one of them on, if they are in the text from a position
     /// on.
-    fn used_registers(&mut self, first: usize, start: usize) -> [bool; COUNT] {
+    fn used_registers(&mut self, tree: &Tree<'_>, first: usize, start: usize) -> [bool; COUNT] {
         let mut used = [false; COUNT];
         for at in first..self.emitter.names.len() {
-            let Some(name) = self.name_after(at, start) else {
+            let Some(name) = self.name_after(tree, at, start) else {
                 continue;
             };
             match name.meaning {
@@ -382,16 +371,12 @@ impl Compiler<'_> {
     }
 
     /// The name at a position, if it is in the text from this place on.
-    fn name_after(&self, at: usize, start: usize) -> Option<Name> {
+    fn name_after(&self, tree: &Tree<'_>, at: usize, start: usize) -> Option<Name> {
         let name = self.emitter.names.get(at)?;
         if matches!(name.meaning, Meaning::Hidden(_)) {
             return None;
         }
-        if has_word(
-            self.emitter.tree.text(),
-            start,
-            self.emitter.word(name.span),
-        ) {
+        if has_word(tree.text(), start, tree.word(name.span)) {
             Some(name)
         } else {
             None
@@ -435,8 +420,8 @@ impl Compiler<'_> {
 
     /// Keeps the name at a position for statements that begin at this place in the text. A name
     /// which they don't have only keeps its position.
-    fn keep_name(&mut self, at: usize, start: usize, copies: &Copies) {
-        let kept = match self.name_after(at, start) {
+    fn keep_name(&mut self, tree: &Tree<'_>, at: usize, start: usize, copies: &Copies) {
+        let kept = match self.name_after(tree, at, start) {
             Some(name) => KeptName {
                 span: name.span,
                 meaning: self.kept_meaning(name, copies),
@@ -519,5 +504,15 @@ fn is_in_word(text: &[u8], at: usize) -> bool {
     match text.get(at) {
         Some(byte) => byte.is_ascii_alphanumeric() || *byte == b'_',
         None => false,
+    }
+}
+
+/// The position where the first of these statements is in the text.
+fn tail_start(tree: &Tree<'_>, tail: &Sequence) -> usize {
+    let now = tree.statements(tail.now).first();
+    let later = tree.statements(tail.later).first();
+    match (now, later) {
+        (Some(statement), _) | (None, Some(statement)) => statement.span.start,
+        (None, None) => tree.text().len(),
     }
 }

@@ -2,43 +2,43 @@
 
 use crate::compiler::Compiler;
 use crate::nests::NestKind;
-use script_syntax::{Statement, StatementKind};
+use script_syntax::{Statement, StatementKind, Tree};
 use script_values::Task;
 
-impl Compiler<'_> {
-    pub fn perform(&mut self, task: Task) {
-        if self.emitter.perform(task) {
+impl Compiler {
+    pub fn perform(&mut self, tree: &Tree<'_>, task: Task) {
+        if self.emitter.perform(tree, task) {
             return;
         }
         match task {
             Task::Block(block) => self.begin_block(block),
             Task::Body(block, names, is_inside) => self.begin_body(block, names, is_inside),
-            Task::Sequence(sequence) => self.next_statement(sequence),
+            Task::Sequence(sequence) => self.next_statement(tree, sequence),
             Task::AfterStatement(rest, exits, deferred) => {
-                self.after_statement(rest, exits, deferred)
+                self.after_statement(tree, rest, exits, deferred)
             }
-            other => self.perform_end(other),
+            other => self.perform_end(tree, other),
         }
     }
 
     /// Tasks that begin or end statements.
-    fn perform_end(&mut self, task: Task) {
+    fn perform_end(&mut self, tree: &Tree<'_>, task: Task) {
         match task {
             Task::EndGuard(span) => self.end_guard(span),
             Task::EndScope(names) => self.end_scope(names),
             Task::Statement(statement) => self.begin_statement(statement),
-            Task::Perform(statement) => self.perform_statement(statement),
+            Task::Perform(statement) => self.perform_statement(tree, statement),
             Task::EndStatement => {
                 self.end_statement();
             }
             Task::EndChoice => {
                 self.end_choice();
             }
-            other => self.perform_nest(other),
+            other => self.perform_nest(tree, other),
         }
     }
 
-    fn perform_nest(&mut self, task: Task) {
+    fn perform_nest(&mut self, tree: &Tree<'_>, task: Task) {
         match task {
             Task::EndNest => self.end_nest(),
             Task::DropNest => {
@@ -47,33 +47,35 @@ impl Compiler<'_> {
             Task::BeginDeferred(at) => self.begin_nest(NestKind::Deferred(at)),
             Task::RunDeferred(at) => self.run_deferred(at),
             Task::EndDeferred(at, names) => self.end_deferred(at, names),
-            other => self.perform_construct(other),
+            other => self.perform_construct(tree, other),
         }
     }
 
     /// Tasks with loops, functions and the program.
-    fn perform_construct(&mut self, task: Task) {
+    fn perform_construct(&mut self, tree: &Tree<'_>, task: Task) {
         match task {
-            Task::BeginCall(at, span, arguments) => self.begin_call(at, span, arguments, true),
-            Task::Call(function, at, wants_value) => self.call(function, at, wants_value),
+            Task::BeginCall(at, span, arguments) => self.begin_call(
+                tree, at, span, arguments, true,
+            ),
+            Task::Call(function, at, wants_value) => self.call(tree, function, at, wants_value),
             Task::EndCall => self.end_call(),
             Task::BeginLoop(found) => self.begin_loop(found),
             Task::EndLoop => self.end_loop(),
-            Task::NextTurn(found) => self.next_turn(found),
-            Task::EndMain => self.end_main(),
+            Task::NextTurn(found) => self.next_turn(tree, found),
+            Task::EndMain => self.end_main(tree),
             Task::DoReturn(statement) => self.leave(statement),
             _ => {}
         }
     }
 
-    fn perform_statement(&mut self, statement: Statement) {
+    fn perform_statement(&mut self, tree: &Tree<'_>, statement: Statement) {
         match statement.kind {
             StatementKind::Break | StatementKind::Continue | StatementKind::Stop => {
                 self.leave(statement)
             }
             StatementKind::Return(_) => self.begin_return(statement),
-            StatementKind::Call(at) => self.begin_call_statement(statement, at),
-            _ => self.emitter.begin(statement),
+            StatementKind::Call(at) => self.begin_call_statement(tree, statement, at),
+            _ => self.emitter.begin(tree, statement),
         }
     }
 }

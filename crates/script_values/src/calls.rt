@@ -1,6 +1,7 @@
 //! Arguments and parameters of functions.
 
 use crate::emitter::Emitter;
+use crate::places::steps_of;
 use crate::task::{PartEnd, Task};
 use script_code::{
     About, COUNT, ErrorKind, Function, Key, Known, Meaning, Place, Register, Root, Trouble, TypeAt,
@@ -14,10 +15,15 @@ use script_syntax::{
 /// How many blocks a search visits.
 const MOST_BLOCKS: usize = 1_000_000;
 
-impl Emitter<'_> {
+impl Emitter {
     /// Whether a function takes this many arguments. If it doesn't, that is noted.
-    pub fn takes(&mut self, function: Function, span: Span, arguments: Range) -> bool {
-        let tree = self.tree;
+    pub fn takes(
+        &mut self,
+        tree: &Tree<'_>,
+        function: Function,
+        span: Span,
+        arguments: Range,
+    ) -> bool {
         let wanted = tree.fields(function.parameters).len();
         let found = tree.arguments(arguments).len();
         if wanted != found {
@@ -27,39 +33,44 @@ impl Emitter<'_> {
         wanted == found
     }
 
-    pub fn begin_arguments(&mut self, function: Function, arguments: Range) {
-        let tree = self.tree;
+    pub fn begin_arguments(&mut self, tree: &Tree<'_>, function: Function, arguments: Range) {
         let (fields, arguments) = (tree.fields(function.parameters), tree.arguments(arguments));
         for at in (0..fields.len()).rev() {
             if let (Some(field), Some(argument)) = (fields.get(at), arguments.get(at)) {
-                self.begin_argument(function, *field, *argument);
+                self.begin_argument(tree, function, *field, *argument);
             }
         }
     }
 
-    fn begin_argument(&mut self, function: Function, field: Field, argument: ExpressionAt) {
-        let wanted = self.parameter_type(field);
+    fn begin_argument(
+        &mut self,
+        tree: &Tree<'_>,
+        function: Function,
+        field: Field,
+        argument: ExpressionAt,
+    ) {
+        let wanted = self.parameter_type(tree, field);
         if wanted != TypeAt::INT {
-            return self.begin_place_argument(wanted, argument);
+            return self.begin_place_argument(tree, wanted, argument);
         }
-        let name = self.word(field.name);
-        let changes = self.assigns(function.body, name);
-        if self.plain_name(argument).is_some() && !changes {
+        let name = tree.word(field.name);
+        let changes = self.assigns(tree, function.body, name);
+        if self.plain_name(tree, argument).is_some() && !changes {
             return self.push_task(Task::Evaluate(argument, None));
         }
         self.then(&[Task::Evaluate(argument, None), Task::Fresh])
     }
 
-    fn begin_place_argument(&mut self, wanted: TypeAt, argument: ExpressionAt) {
-        if self.steps_of(argument, 0).is_none() {
-            let span = self.span_of(argument);
+    fn begin_place_argument(&mut self, tree: &Tree<'_>, wanted: TypeAt, argument: ExpressionAt) {
+        if steps_of(tree, argument, 0).is_none() {
+            let span = self.span_of(tree, argument);
             return self.type_error(span, ErrorKind::ARGUMENT_TYPE, wanted);
         }
         self.push_task(Task::Place(argument, 0))
     }
 
-    fn parameter_type(&mut self, field: Field) -> TypeAt {
-        match self.written_type(field.value_type) {
+    fn parameter_type(&mut self, tree: &Tree<'_>, field: Field) -> TypeAt {
+        match self.written_type(tree, field.value_type) {
             Ok(found) => found,
             Err(_) => {
                 self.skip();
@@ -88,22 +99,21 @@ impl Emitter<'_> {
         held
     }
 
-    pub fn bind_parameters(&mut self, function: Function, at: ExpressionAt) {
-        let tree = self.tree;
+    pub fn bind_parameters(&mut self, tree: &Tree<'_>, function: Function, at: ExpressionAt) {
         let fields = tree.fields(function.parameters);
-        let numbers = self.count_numbers(fields);
+        let numbers = self.count_numbers(tree, fields);
         let places = fields.len().saturating_sub(numbers);
         let first_number = self.values.len().saturating_sub(numbers);
         let first_place = self.places.len().saturating_sub(places);
         let (mut number, mut place) = (first_number, first_place);
         for (index, field) in fields.iter().enumerate() {
-            let wanted = self.parameter_type(*field);
+            let wanted = self.parameter_type(tree, *field);
             if wanted == TypeAt::INT {
                 self.bind_number_parameter(*field, number);
                 number = number.saturating_add(1);
             } else {
-                let span = self.argument_span(at, index);
-                self.bind_place_parameter(function, *field, wanted, place, span);
+                let span = self.argument_span(tree, at, index);
+                self.bind_place_parameter(tree, function, *field, wanted, place, span);
                 place = place.saturating_add(1);
             }
             self.use_last_name();
@@ -113,24 +123,24 @@ impl Emitter<'_> {
     }
 
     /// How many parameters are numbers.
-    fn count_numbers(&mut self, fields: &[Field]) -> usize {
+    fn count_numbers(&mut self, tree: &Tree<'_>, fields: &[Field]) -> usize {
         let mut numbers = 0usize;
         for field in fields {
-            if self.parameter_type(*field) == TypeAt::INT {
+            if self.parameter_type(tree, *field) == TypeAt::INT {
                 numbers = numbers.saturating_add(1);
             }
         }
         numbers
     }
 
-    fn argument_span(&self, at: ExpressionAt, index: usize) -> Span {
-        let span = self.span_of(at);
-        let Some(expression) = self.tree.expression(at) else {
+    fn argument_span(&self, tree: &Tree<'_>, at: ExpressionAt, index: usize) -> Span {
+        let span = self.span_of(tree, at);
+        let Some(expression) = tree.expression(at) else {
             return span;
         };
         match expression.kind {
-            ExpressionKind::Call(arguments) => match self.tree.arguments(arguments).get(index) {
-                Some(argument) => self.span_of(*argument),
+            ExpressionKind::Call(arguments) => match tree.arguments(arguments).get(index) {
+                Some(argument) => self.span_of(tree, *argument),
                 None => span,
             },
             _ => span,
@@ -146,6 +156,7 @@ impl Emitter<'_> {
 
     fn bind_place_parameter(
         &mut self,
+        tree: &Tree<'_>,
         function: Function,
         field: Field,
         wanted: TypeAt,
@@ -167,7 +178,7 @@ impl Emitter<'_> {
                 About::of_types(wanted, found),
             );
         }
-        self.keep_keys(&mut place, function.body);
+        self.keep_keys(tree, &mut place, function.body);
         self.bind(
             field.name,
             Meaning::Place {
@@ -198,35 +209,35 @@ impl Emitter<'_> {
 
     /// Keeps the keys of a place while a name refers to it. A key whose variable is set in this
     /// block is copied.
-    pub fn keep_keys(&mut self, place: &mut Place, block: Block) {
+    pub fn keep_keys(&mut self, tree: &Tree<'_>, place: &mut Place, block: Block) {
         for at in place.first..place.end {
-            self.keep_way(at, block);
+            self.keep_way(tree, at, block);
         }
         if let Root::Element(object, Key::Register(register)) = place.root {
-            let key = Key::Register(self.keep_key(register, block));
+            let key = Key::Register(self.keep_key(tree, register, block));
             place.root = Root::Element(object, key);
         }
     }
 
     /// Keeps the key of the step at a position.
-    fn keep_way(&mut self, at: usize, block: Block) {
+    fn keep_way(&mut self, tree: &Tree<'_>, at: usize, block: Block) {
         let Some(way) = self.ways.get(at).copied() else {
             return;
         };
         let Some(Key::Register(register)) = way.kind.key() else {
             return;
         };
-        let key = Key::Register(self.keep_key(register, block));
+        let key = Key::Register(self.keep_key(tree, register, block));
         if let Some(way) = self.ways.get_mut(at) {
             way.kind = way.kind.with_key(key);
         }
     }
 
-    fn keep_key(&mut self, register: Register, block: Block) -> Register {
+    fn keep_key(&mut self, tree: &Tree<'_>, register: Register, block: Block) -> Register {
         let mut kept = register;
         if let Some(span) = self.variable_in(register) {
-            let name = self.word(span);
-            if self.assigns(block, name) {
+            let name = tree.word(span);
+            if self.assigns(tree, block, name) {
                 kept = self.code.take();
                 self.code.copy(kept, register);
             }
@@ -255,25 +266,25 @@ impl Emitter<'_> {
     }
 
     /// Whether a number with this name is set in this block.
-    fn assigns(&mut self, block: Block, word: &[u8]) -> bool {
-        self.has_statement(block, Wanted::Sets(word))
+    fn assigns(&mut self, tree: &Tree<'_>, block: Block, word: &[u8]) -> bool {
+        self.has_statement(tree, block, Wanted::Sets(word))
     }
 
     /// Whether something in this block may remove a place, or move an owned object.
-    pub fn removes(&mut self, block: Block) -> bool {
-        self.has_statement(block, Wanted::Removes)
+    pub fn removes(&mut self, tree: &Tree<'_>, block: Block) -> bool {
+        self.has_statement(tree, block, Wanted::Removes)
     }
 
     /// Whether a block has such a statement.
-    fn has_statement(&mut self, block: Block, wanted: Wanted<'_>) -> bool {
+    fn has_statement(&mut self, tree: &Tree<'_>, block: Block, wanted: Wanted<'_>) -> bool {
         let mut waiting = Vec::new(self.alloc);
         add_block(&mut waiting, block, &mut self.code.trouble);
         for _ in 0..MOST_BLOCKS {
             let Some(block) = waiting.pop() else {
                 return false;
             };
-            if self.has_one(&mut waiting, block.statements, wanted)
-                || self.has_one(&mut waiting, block.following, wanted)
+            if self.has_one(tree, &mut waiting, block.statements, wanted)
+                || self.has_one(tree, &mut waiting, block.following, wanted)
             {
                 return true;
             }
@@ -282,8 +293,13 @@ impl Emitter<'_> {
     }
 
     /// Whether one of these statements is such a statement. If not, their blocks are added.
-    fn has_one(&mut self, waiting: &mut Vec<Block>, range: Range, wanted: Wanted<'_>) -> bool {
-        let tree = self.tree;
+    fn has_one(
+        &mut self,
+        tree: &Tree<'_>,
+        waiting: &mut Vec<Block>,
+        range: Range,
+        wanted: Wanted<'_>,
+    ) -> bool {
         for statement in tree.statements(range) {
             if wanted.is_met(tree, statement) {
                 return true;

@@ -1,15 +1,16 @@
 //! Statements that change places.
 
 use crate::emitter::Emitter;
+use crate::places::last_step;
 use crate::task::{Handler, Task, Value, Walk};
-use crate::walks::Removed;
+use crate::walks::{Removed, own_handler};
 use client_code::Operation;
 use script_code::{
     About, Error, ErrorKind, Known, Meaning, Operand, Place, Register, Root, Shape, TypeAt, WayKind,
 };
 use script_syntax::{
     BinaryOperator, Container, ExpressionAt, Item, Range, SetOperator, Span, Statement,
-    StatementKind, StepKind, ValueKind,
+    StatementKind, StepKind, Tree, ValueKind,
 };
 
 /// A push or a pop of a container.
@@ -48,31 +49,31 @@ impl Method {
     }
 }
 
-impl Emitter<'_> {
-    pub fn begin_set(&mut self, statement: Statement) {
+impl Emitter {
+    pub fn begin_set(&mut self, tree: &Tree<'_>, statement: Statement) {
         let StatementKind::Set { place, items, .. } = statement.kind else {
             return;
         };
-        if let Some(name) = self.plain_name(place) {
-            if self.is_variable(place) {
-                return self.begin_assign(statement, name, items);
+        if let Some(name) = self.plain_name(tree, place) {
+            if self.is_variable(tree, place) {
+                return self.begin_assign(tree, statement, name, items);
             }
         }
-        if self.is_text(place) {
+        if self.is_text(tree, place) {
             return self.then_place(place, Task::DoText(statement));
         }
-        if self.is_own(place) {
-            return self.begin_put(statement, place, items);
+        if self.is_own(tree, place) {
+            return self.begin_put(tree, statement, place, items);
         }
         self.push_task(Task::DoSet(statement));
-        if let Ok(value) = self.only_value(&statement, items) {
+        if let Ok(value) = only_value(tree, &statement, items) {
             self.push_task(Task::Evaluate(value, None));
         }
         self.push_task(Task::Place(place, 0))
     }
 
-    pub fn is_own(&self, at: ExpressionAt) -> bool {
-        match self.type_of(at) {
+    pub fn is_own(&self, tree: &Tree<'_>, at: ExpressionAt) -> bool {
+        match self.type_of(tree, at) {
             Some(found) => matches!(
                 self.program.types.shape(found),
                 Shape::Of(Container::Own, _)
@@ -81,21 +82,8 @@ impl Emitter<'_> {
         }
     }
 
-    /// The one number of an assignment.
-    fn only_value(&self, statement: &Statement, items: Range) -> Result<ExpressionAt, Error> {
-        let (span, kind) = match self.tree.items(items) {
-            [item] => match item.value.kind {
-                ValueKind::Expression(at) if item.width.is_none() => return Ok(at),
-                ValueKind::Expression(_) => (item.value.span, ErrorKind::MISPLACED_WIDTH),
-                _ => (operator_span(statement), ErrorKind::SEVERAL_VALUES),
-            },
-            _ => (operator_span(statement), ErrorKind::SEVERAL_VALUES),
-        };
-        Err(Error::at(span, kind))
-    }
-
     /// Sets a number with a name.
-    fn begin_assign(&mut self, statement: Statement, name: usize, items: Range) {
+    fn begin_assign(&mut self, tree: &Tree<'_>, statement: Statement, name: usize, items: Range) {
         let StatementKind::Set {
             place,
             operator,
@@ -116,34 +104,34 @@ impl Emitter<'_> {
         else {
             return self.skip();
         };
-        let span = self.span_of(place);
+        let span = self.span_of(tree, place);
         if is_fixed {
             return self.error(span, ErrorKind::LOOP_NAME);
         }
-        if self.is_object(items) {
+        if is_object(tree, items) {
             let about = About::name(span);
             return self.error_about(operator_span, ErrorKind::IS_NUMBER, about);
         }
-        let value = match self.only_value(&statement, items) {
+        let value = match only_value(tree, &statement, items) {
             Ok(value) => value,
             Err(error) => return self.fail(error),
         };
         self.names.use_name(name);
         self.names.lengthen(name);
-        self.assign(register, binary_of(operator), operator_span, place, value)
-    }
-
-    /// Whether an assignment's only item is `new` or `take`.
-    fn is_object(&self, items: Range) -> bool {
-        match self.tree.items(items) {
-            [item] => !matches!(item.value.kind, ValueKind::Expression(_)),
-            _ => false,
-        }
+        self.assign(
+            tree,
+            register,
+            binary_of(operator),
+            operator_span,
+            place,
+            value,
+        )
     }
 
     /// Sets the number in a register, which is at this place, to a value, or changes it by one.
     fn assign(
         &mut self,
+        tree: &Tree<'_>,
         register: Register,
         operator: Option<BinaryOperator>,
         operator_span: Span,
@@ -151,7 +139,7 @@ impl Emitter<'_> {
         value: ExpressionAt,
     ) {
         match operator {
-            Some(operator) => self.change(register, operator, operator_span, place, value),
+            Some(operator) => self.change(tree, register, operator, operator_span, place, value),
             None => self.then(&[
                 Task::Evaluate(value, Some(register)),
                 Task::MoveTo(register),
@@ -162,6 +150,7 @@ impl Emitter<'_> {
     /// Changes the number in a register, which is at this place, by a value.
     fn change(
         &mut self,
+        tree: &Tree<'_>,
         register: Register,
         operator: BinaryOperator,
         operator_span: Span,
@@ -170,7 +159,7 @@ impl Emitter<'_> {
     ) {
         if matches!(operator, BinaryOperator::Divide | BinaryOperator::Remainder) {
             self.push_task(Task::MoveTo(register));
-            return self.begin_division(operator_span, operator, place, value);
+            return self.begin_division(tree, operator_span, operator, place, value);
         }
         self.then(&[
             Task::Push(Value {
@@ -184,7 +173,7 @@ impl Emitter<'_> {
     }
 
     /// Sets the number at the last place to the last number.
-    pub fn set_number(&mut self, statement: Statement) {
+    pub fn set_number(&mut self, tree: &Tree<'_>, statement: Statement) {
         let place = self.pop_place();
         self.check_settable(&statement, &place);
         let StatementKind::Set {
@@ -195,7 +184,7 @@ impl Emitter<'_> {
         else {
             return;
         };
-        if let Err(error) = self.only_value(&statement, items) {
+        if let Err(error) = only_value(tree, &statement, items) {
             return self.fail(error);
         }
         if matches!(operator, SetOperator::Divide | SetOperator::Remainder) {
@@ -256,42 +245,55 @@ impl Emitter<'_> {
 
     // Owned objects
 
-    fn begin_put(&mut self, statement: Statement, place: ExpressionAt, items: Range) {
+    fn begin_put(
+        &mut self,
+        tree: &Tree<'_>,
+        statement: Statement,
+        place: ExpressionAt,
+        items: Range,
+    ) {
         let StatementKind::Set { operator, .. } = statement.kind else {
             return;
         };
-        let tree = self.tree;
         match tree.items(items) {
-            [item] if operator == SetOperator::Set => { self.begin_move(statement, place, item) }
+            [item] if operator == SetOperator::Set => {
+                self.begin_move(tree, statement, place, item)
+            }
             _ => self.error(operator_span(&statement), ErrorKind::ONLY_NUMBERS),
         }
     }
 
-    fn begin_move(&mut self, statement: Statement, place: ExpressionAt, item: &Item) {
+    fn begin_move(
+        &mut self,
+        tree: &Tree<'_>,
+        statement: Statement,
+        place: ExpressionAt,
+        item: &Item,
+    ) {
         let owner = match item.value.kind {
-            ValueKind::Expression(at) => self.plain_name(at),
+            ValueKind::Expression(at) => self.plain_name(tree, at),
             _ => None,
         };
         match owner {
             Some(owner) if self.owner(owner).is_some() => {
                 self.then_place(place, Task::DoPut(statement, owner))
             }
-            _ => self.no_owner(item.value.span, ErrorKind::OWNER_WANTED),
+            _ => self.no_owner(tree, item.value.span, ErrorKind::OWNER_WANTED),
         }
     }
 
     /// Notes that an owned object is wanted, unless the statement that gives the name has an error.
-    fn no_owner(&mut self, span: Span, kind: ErrorKind) {
-        if self.is_unknown(span) {
+    fn no_owner(&mut self, tree: &Tree<'_>, span: Span, kind: ErrorKind) {
+        if self.is_unknown(tree, span) {
             return self.skip();
         }
         self.error(span, kind)
     }
 
     /// Whether the statement that gives a name has an error.
-    fn is_unknown(&self, span: Span) -> bool {
-        let word = self.word(span);
-        match self.names.find(self.tree, word) {
+    fn is_unknown(&self, tree: &Tree<'_>, span: Span) -> bool {
+        let word = tree.word(span);
+        match self.names.find(tree, word) {
             Some(at) => matches!(self.names.get(at), Some(name) if name.is_unknown()),
             None => false,
         }
@@ -344,12 +346,12 @@ impl Emitter<'_> {
     }
 
     /// Moves an owned object into the last place.
-    pub fn put_owned(&mut self, statement: Statement, owner: usize) {
+    pub fn put_owned(&mut self, tree: &Tree<'_>, statement: Statement, owner: usize) {
         let place = self.pop_place();
         let Shape::Of(Container::Own, content) = self.program.types.shape(place.value_type) else {
             return self.skip();
         };
-        let span = self.item_span(&statement);
+        let span = item_span(tree, &statement);
         let register = self.check_owner(span, owner, content, &place, ErrorKind::OWNS_ITSELF);
         self.check_changeable(&place);
         self.remove(&place, Removed::Below, statement.span);
@@ -362,17 +364,6 @@ impl Emitter<'_> {
         self.close_handling(&walk, handler, code)
     }
 
-    /// The span of the first item of an assignment.
-    fn item_span(&self, statement: &Statement) -> Span {
-        let StatementKind::Set { items, .. } = statement.kind else {
-            return statement.span;
-        };
-        match self.tree.items(items).first() {
-            Some(item) => item.value.span,
-            None => statement.span,
-        }
-    }
-
     pub fn begin_freeze(&mut self, statement: Statement) {
         let StatementKind::Freeze { place, .. } = statement.kind else {
             return;
@@ -381,7 +372,7 @@ impl Emitter<'_> {
     }
 
     /// Moves an owned object into the last place and freezes it.
-    pub fn freeze(&mut self, statement: Statement) {
+    pub fn freeze(&mut self, tree: &Tree<'_>, statement: Statement) {
         let StatementKind::Freeze { name, .. } = statement.kind else {
             return;
         };
@@ -390,8 +381,8 @@ impl Emitter<'_> {
         let Shape::Of(Container::Shared, content) = shape else {
             return self.type_error(place.span, ErrorKind::FREEZE_OF, place.value_type);
         };
-        let Some(owner) = self.owner_named(name) else {
-            return self.no_owner(name, ErrorKind::NEW_WANTED);
+        let Some(owner) = self.owner_named(tree, name) else {
+            return self.no_owner(tree, name, ErrorKind::NEW_WANTED);
         };
         let register = self.check_owner(name, owner, content, &place, ErrorKind::SHARES_ITSELF);
         self.check_changeable(&place);
@@ -404,9 +395,9 @@ impl Emitter<'_> {
     }
 
     /// The local name with this spelling, if it owns or owned an object.
-    fn owner_named(&self, span: Span) -> Option<usize> {
-        let word = self.word(span);
-        let at = self.names.find(self.tree, word)?;
+    fn owner_named(&self, tree: &Tree<'_>, span: Span) -> Option<usize> {
+        let word = tree.word(span);
+        let at = self.names.find(tree, word)?;
         match self.owner(at) {
             Some(_) => Some(at),
             None => None,
@@ -480,14 +471,19 @@ impl Emitter<'_> {
     }
 
     /// Works out a method's value and its place, and then the method. The item may get a name.
-    pub fn begin_method(&mut self, at: ExpressionAt, statement: Statement, is_named: bool) {
-        let Some((span, arguments)) = self.method_of(at) else {
-            return self.error_at(at, ErrorKind::NO_METHOD);
+    pub fn begin_method(
+        &mut self,
+        tree: &Tree<'_>,
+        at: ExpressionAt,
+        statement: Statement,
+        is_named: bool,
+    ) {
+        let Some((span, arguments)) = method_of(tree, at) else {
+            return self.error_at(tree, at, ErrorKind::NO_METHOD);
         };
-        let Some(method) = Method::named(self.word(span)) else {
+        let Some(method) = Method::named(tree.word(span)) else {
             return self.error(span, ErrorKind::NO_METHOD);
         };
-        let tree = self.tree;
         let value = match value_of(tree.arguments(arguments), method.is_push()) {
             Ok(value) => value,
             Err(kind) => return self.error(span, kind),
@@ -497,22 +493,6 @@ impl Emitter<'_> {
         if let Some(value) = value {
             self.push_task(Task::Evaluate(value, None));
         }
-    }
-
-    /// The name and the arguments of the method at the end of a place.
-    fn method_of(&self, at: ExpressionAt) -> Option<(Span, Range)> {
-        let step = self.last_step(at)?;
-        match step.kind {
-            StepKind::Method(arguments) => Some((step.span, arguments)),
-            _ => None,
-        }
-    }
-
-    /// The push or pop at the end of a place, and the span of its name.
-    pub fn method_at(&self, at: ExpressionAt) -> Option<(Span, Method)> {
-        let step = self.last_step(at)?;
-        let method = Method::named(self.word(step.span))?;
-        Some((step.span, method))
     }
 
     /// The type of a container's items, if it has the method whose name has this span.
@@ -545,11 +525,11 @@ impl Emitter<'_> {
     }
 
     /// A method of the last place, whose item gets no name.
-    pub fn do_method(&mut self, statement: Statement, has_value: bool) {
+    pub fn do_method(&mut self, tree: &Tree<'_>, statement: Statement, has_value: bool) {
         let StatementKind::Call(at) = statement.kind else {
             return;
         };
-        let Some((span, method)) = self.method_at(at) else {
+        let Some((span, method)) = method_at(tree, at) else {
             return self.skip();
         };
         let mut place = self.pop_place();
@@ -584,7 +564,7 @@ impl Emitter<'_> {
         if method.is_push() {
             return self.handler(statement);
         }
-        self.own_handler(statement)
+        own_handler(statement)
     }
 
     /// Emits a push or a pop at the end of a walk. If it fails, a register is set to the code.
@@ -700,4 +680,52 @@ fn binary_of(operator: SetOperator) -> Option<BinaryOperator> {
         SetOperator::Divide => Some(BinaryOperator::Divide),
         SetOperator::Remainder => Some(BinaryOperator::Remainder),
     }
+}
+
+/// The one number of an assignment.
+fn only_value(tree: &Tree<'_>, statement: &Statement, items: Range) -> Result<ExpressionAt, Error> {
+    let (span, kind) = match tree.items(items) {
+        [item] => match item.value.kind {
+            ValueKind::Expression(at) if item.width.is_none() => return Ok(at),
+            ValueKind::Expression(_) => (item.value.span, ErrorKind::MISPLACED_WIDTH),
+            _ => (operator_span(statement), ErrorKind::SEVERAL_VALUES),
+        },
+        _ => (operator_span(statement), ErrorKind::SEVERAL_VALUES),
+    };
+    Err(Error::at(span, kind))
+}
+
+/// Whether an assignment's only item is `new` or `take`.
+fn is_object(tree: &Tree<'_>, items: Range) -> bool {
+    match tree.items(items) {
+        [item] => !matches!(item.value.kind, ValueKind::Expression(_)),
+        _ => false,
+    }
+}
+
+/// The span of the first item of an assignment.
+fn item_span(tree: &Tree<'_>, statement: &Statement) -> Span {
+    let StatementKind::Set { items, .. } = statement.kind else {
+        return statement.span;
+    };
+    match tree.items(items).first() {
+        Some(item) => item.value.span,
+        None => statement.span,
+    }
+}
+
+/// The name and the arguments of the method at the end of a place.
+fn method_of(tree: &Tree<'_>, at: ExpressionAt) -> Option<(Span, Range)> {
+    let step = last_step(tree, at)?;
+    match step.kind {
+        StepKind::Method(arguments) => Some((step.span, arguments)),
+        _ => None,
+    }
+}
+
+/// The push or pop at the end of a place, and the span of its name.
+pub fn method_at(tree: &Tree<'_>, at: ExpressionAt) -> Option<(Span, Method)> {
+    let step = last_step(tree, at)?;
+    let method = Method::named(tree.word(step.span))?;
+    Some((step.span, method))
 }

@@ -7,7 +7,7 @@ use script_code::{
     Shape, StructAt, StructType, Trouble, TypeAt, append,
 };
 use script_syntax::{
-    Block, Declaration, DeclarationKind, ExpressionAt, Range, Span, StatementKind, Type,
+    Block, Declaration, DeclarationKind, ExpressionAt, Range, Span, StatementKind, Tree, Type,
 };
 
 /// The most bytes of an object's name.
@@ -22,45 +22,43 @@ const MOST_BLOCKS: usize = 1_000_000;
 /// How many blocks may be in each other. Names are looked up one by one, so deeper ones would be slow.
 const MOST_NESTED: usize = 1_000;
 
-impl Emitter<'_> {
+impl Emitter {
     /// Reads all declarations, and reports their errors.
-    pub fn declare(&mut self) {
-        let tree = self.tree;
-        self.check_nesting();
+    pub fn declare(&mut self, tree: &Tree<'_>) {
+        self.check_nesting(tree);
         for declaration in tree.declarations() {
-            self.declare_name(*declaration);
+            self.declare_name(tree, *declaration);
         }
-        self.find_values();
+        self.find_values(tree);
         for declaration in tree.declarations() {
-            self.declare_fields(*declaration);
+            self.declare_fields(tree, *declaration);
             self.report_noted();
         }
         self.check_structs();
         for declaration in tree.declarations() {
-            self.declare_object(*declaration);
+            self.declare_object(tree, *declaration);
             self.report_noted();
         }
     }
 
     /// Reports blocks that are too deep in each other.
-    fn check_nesting(&mut self) {
+    fn check_nesting(&mut self, tree: &Tree<'_>) {
         let mut waiting = Vec::new(self.alloc);
-        self.add_outermost(&mut waiting);
+        self.add_outermost(tree, &mut waiting);
         for _ in 0..MOST_BLOCKS {
             let Some(nested) = waiting.pop() else {
                 return;
             };
             if nested.depth > MOST_NESTED {
-                return self.report_nested(nested.block);
+                return self.report_nested(tree, nested.block);
             }
-            self.add_nested(&mut waiting, nested.block.statements, nested.depth);
-            self.add_nested(&mut waiting, nested.block.following, nested.depth);
+            self.add_nested(tree, &mut waiting, nested.block.statements, nested.depth);
+            self.add_nested(tree, &mut waiting, nested.block.following, nested.depth);
         }
     }
 
     /// Adds the outermost blocks of the program.
-    fn add_outermost(&mut self, waiting: &mut Vec<Nested>) {
-        let tree = self.tree;
+    fn add_outermost(&mut self, tree: &Tree<'_>, waiting: &mut Vec<Nested>) {
         add_nested_block(waiting, tree.body(), 1, &mut self.code.trouble);
         for declaration in tree.declarations() {
             match declaration.kind {
@@ -73,8 +71,13 @@ impl Emitter<'_> {
     }
 
     /// Adds the blocks of statements at this depth.
-    fn add_nested(&mut self, waiting: &mut Vec<Nested>, range: Range, depth: usize) {
-        let tree = self.tree;
+    fn add_nested(
+        &mut self,
+        tree: &Tree<'_>,
+        waiting: &mut Vec<Nested>,
+        range: Range,
+        depth: usize,
+    ) {
         let depth = depth.saturating_add(1);
         for statement in tree.statements(range) {
             if let Some(body) = statement.body {
@@ -86,8 +89,7 @@ impl Emitter<'_> {
         }
     }
 
-    fn report_nested(&mut self, block: Block) {
-        let tree = self.tree;
+    fn report_nested(&mut self, tree: &Tree<'_>, block: Block) {
         if let Some(statement) = tree.statements(block.statements).first() {
             self.report_at(statement.span, ErrorKind::NESTED)
         }
@@ -109,21 +111,21 @@ impl Emitter<'_> {
     }
 
     /// Reports a name which is declared already.
-    fn check_new(&mut self, span: Span) {
-        let word = self.word(span);
-        match self.program.declared(self.tree, word) {
+    fn check_new(&mut self, tree: &Tree<'_>, span: Span) {
+        let word = tree.word(span);
+        match self.program.declared(tree, word) {
             Some((kind, line)) => self.report_about(span, kind, About::number(line)),
             None => {}
         }
     }
 
     /// Declares what other declarations may use.
-    fn declare_name(&mut self, declaration: Declaration) {
+    fn declare_name(&mut self, tree: &Tree<'_>, declaration: Declaration) {
         let name = declaration.span;
         if let DeclarationKind::Fail(block) = declaration.kind {
-            return self.declare_fail(name, block);
+            return self.declare_fail(tree, name, block);
         }
-        self.check_new(name);
+        self.check_new(tree, name);
         match declaration.kind {
             DeclarationKind::Constant(expression) => self.add_constant(name, expression),
             DeclarationKind::Struct(_) => self.add_struct(name),
@@ -137,7 +139,7 @@ impl Emitter<'_> {
                 gives_number,
                 body,
             }),
-            kind => self.add_object(name, object_kind(kind)),
+            kind => self.add_object(tree, name, object_kind(kind)),
         }
     }
 
@@ -171,8 +173,8 @@ impl Emitter<'_> {
         )
     }
 
-    fn add_object(&mut self, name: Span, kind: ObjectKind) {
-        let word = self.word(name);
+    fn add_object(&mut self, tree: &Tree<'_>, name: Span, kind: ObjectKind) {
+        let word = tree.word(name);
         let constant = self.code.constant(constant_kind(kind), word);
         let object = Object {
             name,
@@ -184,29 +186,34 @@ impl Emitter<'_> {
         append(&mut self.program.objects, object, &mut self.code.trouble)
     }
 
-    fn declare_fail(&mut self, span: Span, block: Block) {
+    fn declare_fail(&mut self, tree: &Tree<'_>, span: Span, block: Block) {
         if self.program.fail.is_some() {
             return self.report_at(span, ErrorKind::SECOND_FAIL);
         }
         self.program.fail = Some(block);
-        self.check_leaving(block)
+        self.check_leaving(tree, block)
     }
 
     /// Reports what would leave the statement that a `fail` part is used in.
-    fn check_leaving(&mut self, block: Block) {
+    fn check_leaving(&mut self, tree: &Tree<'_>, block: Block) {
         let mut waiting = Vec::new(self.alloc);
         add(&mut waiting, block, false, &mut self.code.trouble);
         for _ in 0..MOST_BLOCKS {
             let Some(inner) = waiting.pop() else {
                 return;
             };
-            self.check_statements(&mut waiting, inner.block.statements, inner.is_in_loop);
-            self.check_statements(&mut waiting, inner.block.following, inner.is_in_loop);
+            self.check_statements(tree, &mut waiting, inner.block.statements, inner.is_in_loop);
+            self.check_statements(tree, &mut waiting, inner.block.following, inner.is_in_loop);
         }
     }
 
-    fn check_statements(&mut self, waiting: &mut Vec<Inner>, range: Range, is_in_loop: bool) {
-        let tree = self.tree;
+    fn check_statements(
+        &mut self,
+        tree: &Tree<'_>,
+        waiting: &mut Vec<Inner>,
+        range: Range,
+        is_in_loop: bool,
+    ) {
         for statement in tree.statements(range) {
             let leaves = match statement.kind {
                 StatementKind::Return(_) => true,
@@ -227,28 +234,28 @@ impl Emitter<'_> {
     }
 
     /// Works out the constants, in any order.
-    fn find_values(&mut self) {
+    fn find_values(&mut self, tree: &Tree<'_>) {
         for _ in 0..self.program.values.len() {
-            if !self.find_more_values() {
+            if !self.find_more_values(tree) {
                 break;
             }
         }
         for at in 0..self.program.values.len() {
-            let _ = self.find_value(at, true);
+            let _ = self.find_value(tree, at, true);
         }
     }
 
     /// Works out the constants that depend on known ones. Returns false if there aren't any.
-    fn find_more_values(&mut self) -> bool {
+    fn find_more_values(&mut self, tree: &Tree<'_>) -> bool {
         let mut finds = false;
         for at in 0..self.program.values.len() {
-            finds = self.find_value(at, false) || finds;
+            finds = self.find_value(tree, at, false) || finds;
         }
         finds
     }
 
     /// Works out a constant, if it has no value yet. Returns whether it gets one.
-    fn find_value(&mut self, at: usize, reports: bool) -> bool {
+    fn find_value(&mut self, tree: &Tree<'_>, at: usize, reports: bool) -> bool {
         let Some(found) = self.program.values.get(at).copied() else {
             return false;
         };
@@ -257,7 +264,7 @@ impl Emitter<'_> {
         }
         match self
             .program
-            .fold(self.tree, &self.names, found.expression, MOST_DEPTH)
+            .fold(tree, &self.names, found.expression, MOST_DEPTH)
         {
             Ok(value) => {
                 if let Some(found) = self.program.values.get_mut(at) {
@@ -275,11 +282,10 @@ impl Emitter<'_> {
     }
 
     /// Declares the fields of a struct.
-    fn declare_fields(&mut self, declaration: Declaration) {
+    fn declare_fields(&mut self, tree: &Tree<'_>, declaration: Declaration) {
         let DeclarationKind::Struct(fields) = declaration.kind else {
             return;
         };
-        let tree = self.tree;
         let written = tree.fields(fields);
         if written.is_empty() || written.len() > 8 {
             self.report_about(
@@ -290,14 +296,14 @@ impl Emitter<'_> {
         }
         let first = self.program.types.members.len();
         for field in written {
-            self.check_field(field.name, first);
-            self.add_field(field.name, field.value_type);
+            self.check_field(tree, field.name, first);
+            self.add_field(tree, field.name, field.value_type);
         }
-        self.set_fields(declaration.span, first)
+        self.set_fields(tree, declaration.span, first)
     }
 
-    fn add_field(&mut self, name: Span, written: Type) {
-        let value_type = self.type_or_int(written);
+    fn add_field(&mut self, tree: &Tree<'_>, name: Span, written: Type) {
+        let value_type = self.type_or_int(tree, written);
         append(
             &mut self.program.types.members,
             Member { name, value_type },
@@ -306,10 +312,10 @@ impl Emitter<'_> {
     }
 
     /// The fields from a position on are those of the struct with this name.
-    fn set_fields(&mut self, name: Span, first: usize) {
+    fn set_fields(&mut self, tree: &Tree<'_>, name: Span, first: usize) {
         let end = self.program.types.members.len();
-        let word = self.word(name);
-        if let Some(StructAt(at)) = self.program.types.struct_named(self.tree, word) {
+        let word = tree.word(name);
+        if let Some(StructAt(at)) = self.program.types.struct_named(tree, word) {
             if let Some(found) = self.program.types.structs.get_mut(at) {
                 found.first = first;
                 found.end = end;
@@ -318,10 +324,10 @@ impl Emitter<'_> {
     }
 
     /// Reports a second field with a name.
-    fn check_field(&mut self, name: Span, first: usize) {
+    fn check_field(&mut self, tree: &Tree<'_>, name: Span, first: usize) {
         for at in first..self.program.types.members.len() {
             if let Some(member) = self.program.types.members.get(at).copied() {
-                if self.word(member.name) == self.word(name) {
+                if tree.word(member.name) == tree.word(name) {
                     return self.report_at(name, ErrorKind::DUPLICATE_FIELD);
                 }
             }
@@ -329,11 +335,11 @@ impl Emitter<'_> {
     }
 
     /// The type that is written, or `int` if a struct in it isn't declared.
-    fn type_or_int(&mut self, written: Type) -> TypeAt {
-        match self.written_type(written) {
+    fn type_or_int(&mut self, tree: &Tree<'_>, written: Type) -> TypeAt {
+        match self.written_type(tree, written) {
             Ok(found) => found,
             Err(span) => {
-                let near = self.near_struct(self.word(span));
+                let near = self.near_struct(tree, tree.word(span));
                 self.report_about(span, ErrorKind::NO_TYPE, About::near(near));
                 TypeAt::INT
             }
@@ -400,47 +406,52 @@ impl Emitter<'_> {
     }
 
     /// Finds the type and the name of an object, and the types of a function's parameters.
-    fn declare_object(&mut self, declaration: Declaration) {
+    fn declare_object(&mut self, tree: &Tree<'_>, declaration: Declaration) {
         match declaration.kind {
             DeclarationKind::Object {
                 value_type,
                 count,
                 segment_name,
             } => {
-                let kind = self.single_or_array(declaration.span, count);
-                self.set_object(declaration.span, value_type, kind, segment_name)
+                let kind = self.single_or_array(tree, declaration.span, count);
+                self.set_object(tree, declaration.span, value_type, kind, segment_name)
             }
             DeclarationKind::Family {
                 value_type,
                 segment_name,
             } => self.set_object(
+                tree,
                 declaration.span,
                 value_type,
                 ObjectKind::Family,
                 segment_name,
             ),
             DeclarationKind::Unique(value_type) => {
-                self.set_object(declaration.span, value_type, ObjectKind::Unique, None)
+                self.set_object(tree, declaration.span, value_type, ObjectKind::Unique, None)
             }
-            DeclarationKind::Function { parameters, .. } => self.check_parameters(parameters),
+            DeclarationKind::Function { parameters, .. } => self.check_parameters(tree, parameters),
             DeclarationKind::Constant(_) | DeclarationKind::Struct(_) | DeclarationKind::Fail(_) =>
                 {}
         }
     }
 
     /// Finds the types of a function's parameters.
-    fn check_parameters(&mut self, parameters: Range) {
-        let tree = self.tree;
+    fn check_parameters(&mut self, tree: &Tree<'_>, parameters: Range) {
         for field in tree.fields(parameters) {
-            let _ = self.type_or_int(field.value_type);
+            let _ = self.type_or_int(tree, field.value_type);
         }
     }
 
-    fn single_or_array(&mut self, span: Span, count: Option<ExpressionAt>) -> ObjectKind {
+    fn single_or_array(
+        &mut self,
+        tree: &Tree<'_>,
+        span: Span,
+        count: Option<ExpressionAt>,
+    ) -> ObjectKind {
         let Some(count) = count else {
             return ObjectKind::Single;
         };
-        match self.needed_number(count) {
+        match self.needed_number(tree, count) {
             count if count >= 1 && count <= 65_535 => ObjectKind::Array(count),
             _ => {
                 self.error(span, ErrorKind::ARRAY_LENGTH);
@@ -451,13 +462,13 @@ impl Emitter<'_> {
 
     fn set_object(
         &mut self,
+        tree: &Tree<'_>,
         span: Span,
         written: Type,
         kind: ObjectKind,
         segment_name: Option<Range>,
     ) {
-        let value_type = self.type_or_int(written);
-        let tree = self.tree;
+        let value_type = self.type_or_int(tree, written);
         let name = match segment_name {
             Some(bytes) => tree.bytes(bytes),
             None => tree.word(span),

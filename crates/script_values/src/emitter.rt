@@ -1,5 +1,6 @@
 //! The state of what is emitted: the code so far, the names, and the tasks that wait.
 
+use crate::places::steps_of;
 use crate::task::{Task, Value};
 use client_code::MAX_TYPES;
 use script_code::{
@@ -24,9 +25,8 @@ pub struct EmitterMark {
 
 /// Emits the code of numbers, places and texts.
 #[derive(Drop)]
-pub struct Emitter<'t> {
+pub struct Emitter {
     pub alloc: Global,
-    pub tree: &'t Tree<'t>,
     pub program: Program,
     pub code: Code,
     pub names: Names,
@@ -48,11 +48,10 @@ pub struct Emitter<'t> {
     made: Vec<ExpressionAt>,
 }
 
-impl<'t> Emitter<'t> {
-    pub fn new(alloc: Global, tree: &'t Tree<'t>, program: Program, code: Code) -> Self {
+impl Emitter {
+    pub fn new(alloc: Global, program: Program, code: Code) -> Self {
         Emitter {
             alloc,
-            tree,
             program,
             code,
             names: Names::new(alloc),
@@ -71,20 +70,10 @@ impl<'t> Emitter<'t> {
     }
 }
 
-impl<'t> Emitter<'t> {
-    /// The bytes of a name.
-    pub fn word(&self, span: Span) -> &'t [u8] {
-        self.tree.word(span)
-    }
-
-    /// Whether a name is this word.
-    pub fn is_word(&self, span: Span, word: &str) -> bool {
-        self.word(span) == word.as_bytes()
-    }
-
+impl Emitter {
     /// The span of an expression.
-    pub fn span_of(&self, at: ExpressionAt) -> Span {
-        match self.tree.expression(at) {
+    pub fn span_of(&self, tree: &Tree<'_>, at: ExpressionAt) -> Span {
+        match tree.expression(at) {
             Some(expression) => expression.span,
             None => self.code.span,
         }
@@ -160,8 +149,8 @@ impl<'t> Emitter<'t> {
     }
 
     /// Notes an error at an expression.
-    pub fn error_at(&mut self, at: ExpressionAt, kind: ErrorKind) {
-        let span = self.span_of(at);
+    pub fn error_at(&mut self, tree: &Tree<'_>, at: ExpressionAt, kind: ErrorKind) {
+        let span = self.span_of(tree, at);
         self.error(span, kind)
     }
 
@@ -255,9 +244,9 @@ impl<'t> Emitter<'t> {
     }
 
     /// Whether a statement just before this one made a place.
-    pub fn was_made(&self, at: ExpressionAt) -> bool {
+    pub fn was_made(&self, tree: &Tree<'_>, at: ExpressionAt) -> bool {
         for made in self.made.as_slice() {
-            if self.has_same_words(*made, at) {
+            if self.has_same_words(tree, *made, at) {
                 return true;
             }
         }
@@ -265,30 +254,30 @@ impl<'t> Emitter<'t> {
     }
 
     /// Whether two places are written with the same names and known keys.
-    fn has_same_words(&self, one: ExpressionAt, two: ExpressionAt) -> bool {
-        let (Some(left), Some(right)) = (self.steps_of(one, 0), self.steps_of(two, 0)) else {
+    fn has_same_words(&self, tree: &Tree<'_>, one: ExpressionAt, two: ExpressionAt) -> bool {
+        let (Some(left), Some(right)) = (steps_of(tree, one, 0), steps_of(tree, two, 0)) else {
             return false;
         };
-        let (left, right) = (self.tree.steps(left), self.tree.steps(right));
-        if self.word(self.span_of(one)) != self.word(self.span_of(two))
+        let (left, right) = (tree.steps(left), tree.steps(right));
+        if tree.word(self.span_of(tree, one)) != tree.word(self.span_of(tree, two))
             || left.len() != right.len()
         {
             return false;
         }
         for (at, one) in left.iter().enumerate() {
             match right.get(at) {
-                Some(two) if self.is_same_step(one, two) => {}
+                Some(two) if self.is_same_step(tree, one, two) => {}
                 _ => return false,
             }
         }
         true
     }
 
-    fn is_same_step(&self, one: &Step, two: &Step) -> bool {
+    fn is_same_step(&self, tree: &Tree<'_>, one: &Step, two: &Step) -> bool {
         match (one.kind, two.kind) {
-            (StepKind::Field, StepKind::Field) => self.word(one.span) == self.word(two.span),
-            (StepKind::Index(one), StepKind::Index(two)) => match self.known_number(one) {
-                Some(key) => self.known_number(two) == Some(key),
+            (StepKind::Field, StepKind::Field) => tree.word(one.span) == tree.word(two.span),
+            (StepKind::Index(one), StepKind::Index(two)) => match self.known_number(tree, one) {
+                Some(key) => self.known_number(tree, two) == Some(key),
                 None => false,
             },
             _ => false,
@@ -315,8 +304,7 @@ impl<'t> Emitter<'t> {
     }
 
     /// The type that is written. `Err` with the name of a struct that isn't declared.
-    pub fn written_type(&mut self, written: Type) -> Result<TypeAt, Span> {
-        let tree = self.tree;
+    pub fn written_type(&mut self, tree: &Tree<'_>, written: Type) -> Result<TypeAt, Span> {
         if tree.containers(written.containers).len() >= MAX_TYPES {
             self.error(written.span, ErrorKind::TYPES);
             return Ok(TypeAt::INT);
@@ -326,23 +314,23 @@ impl<'t> Emitter<'t> {
             .written(tree, written, &mut self.code.trouble)
     }
 
-    pub fn fold(&self, at: ExpressionAt) -> Result<Folded, Error> {
-        self.program.fold(self.tree, &self.names, at, MOST_DEPTH)
+    pub fn fold(&self, tree: &Tree<'_>, at: ExpressionAt) -> Result<Folded, Error> {
+        self.program.fold(tree, &self.names, at, MOST_DEPTH)
     }
 
     /// The number that an expression always is.
-    pub fn known_number(&self, at: ExpressionAt) -> Option<i64> {
-        match self.fold(at) {
+    pub fn known_number(&self, tree: &Tree<'_>, at: ExpressionAt) -> Option<i64> {
+        match self.fold(tree, at) {
             Ok(Folded::Number(value)) => Some(value),
             _ => None,
         }
     }
 
     /// The number that an expression has to be when the program is compiled.
-    pub fn needed_number(&mut self, at: ExpressionAt) -> i64 {
-        match self.fold(at) {
+    pub fn needed_number(&mut self, tree: &Tree<'_>, at: ExpressionAt) -> i64 {
+        match self.fold(tree, at) {
             Ok(Folded::Number(value)) => return value,
-            Ok(Folded::Text(_)) => self.error_at(at, ErrorKind::NOT_CONSTANT),
+            Ok(Folded::Text(_)) => self.error_at(tree, at, ErrorKind::NOT_CONSTANT),
             Err(error) => self.code.trouble.note(Problem::Error(error)),
         }
         0
@@ -387,4 +375,9 @@ impl<'t> Emitter<'t> {
             self.code.usage.free(value.register);
         }
     }
+}
+
+/// Whether a name is this word.
+pub fn is_word(tree: &Tree<'_>, span: Span, word: &str) -> bool {
+    tree.word(span) == word.as_bytes()
 }

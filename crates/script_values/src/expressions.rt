@@ -1,6 +1,7 @@
 //! Numbers: expressions are worked out from the left to the right.
 
 use crate::emitter::Emitter;
+use crate::places::is_number;
 use crate::task::Task;
 use client_code::Operation;
 use script_code::{
@@ -25,17 +26,17 @@ struct Comparison {
     other: Register,
 }
 
-impl Emitter<'_> {
+impl Emitter {
     /// Works out a number, in this register if one is given.
-    pub fn evaluate(&mut self, at: ExpressionAt, into: Option<Register>) {
-        let Some(expression) = self.tree.expression(at) else {
+    pub fn evaluate(&mut self, tree: &Tree<'_>, at: ExpressionAt, into: Option<Register>) {
+        let Some(expression) = tree.expression(at) else {
             return self.skip();
         };
-        match self.fold(at) {
+        match self.fold(tree, at) {
             Ok(Folded::Number(value)) => self.push_known(value, into),
             Ok(Folded::Text(_)) => self.error(expression.span, ErrorKind::TEXT_AS_NUMBER),
             Err(error) if error.kind.class == ErrorClass::Division => self.fail(error),
-            Err(_) => self.evaluate_parts(at, expression, into),
+            Err(_) => self.evaluate_parts(tree, at, expression, into),
         }
     }
 
@@ -47,7 +48,13 @@ impl Emitter<'_> {
     }
 
     /// Works out a number that isn't known.
-    fn evaluate_parts(&mut self, at: ExpressionAt, whole: Expression, into: Option<Register>) {
+    fn evaluate_parts(
+        &mut self,
+        tree: &Tree<'_>,
+        at: ExpressionAt,
+        whole: Expression,
+        into: Option<Register>,
+    ) {
         match whole.kind {
             ExpressionKind::Number(_) | ExpressionKind::Text(_) => {
                 self.error(whole.span, ErrorKind::NUMBER_WANTED)
@@ -56,9 +63,9 @@ impl Emitter<'_> {
                 self.evaluate_unary(operator, operand, into)
             }
             ExpressionKind::Binary(operator, left, right) => {
-                self.evaluate_binary(whole.span, operator, left, right, into)
+                self.evaluate_binary(tree, whole.span, operator, left, right, into)
             }
-            ExpressionKind::Place(_) => self.evaluate_place(at, into),
+            ExpressionKind::Place(_) => self.evaluate_place(tree, at, into),
             ExpressionKind::OrElse(place, default) => self.evaluate_default(place, default),
             ExpressionKind::Call(arguments) => {
                 self.push_task(Task::BeginCall(at, whole.span, arguments))
@@ -75,16 +82,16 @@ impl Emitter<'_> {
         self.then(&[Task::Evaluate(operand, None), Task::Unary(operator, into)])
     }
 
-    fn evaluate_place(&mut self, at: ExpressionAt, into: Option<Register>) {
-        match self.plain_number(at) {
+    fn evaluate_place(&mut self, tree: &Tree<'_>, at: ExpressionAt, into: Option<Register>) {
+        match self.plain_number(tree, at) {
             Some(register) => self.push_value(register, false),
             None => self.then_place(at, Task::Load(at, into)),
         }
     }
 
     /// The register of the number with this name.
-    fn plain_number(&mut self, at: ExpressionAt) -> Option<Register> {
-        let name = self.plain_name(at)?;
+    fn plain_number(&mut self, tree: &Tree<'_>, at: ExpressionAt) -> Option<Register> {
+        let name = self.plain_name(tree, at)?;
         match self.names.get(name)?.meaning {
             Meaning::Number { register, .. } => {
                 self.names.use_name(name);
@@ -104,6 +111,7 @@ impl Emitter<'_> {
 
     fn evaluate_binary(
         &mut self,
+        tree: &Tree<'_>,
         span: Span,
         operator: BinaryOperator,
         left: ExpressionAt,
@@ -111,14 +119,13 @@ impl Emitter<'_> {
         into: Option<Register>,
     ) {
         match operator {
-            BinaryOperator::Equal | BinaryOperator::NotEqual if self.has_text(left, right) => {
-                self.begin_comparison(span, operator, left, right)
-            }
+            BinaryOperator::Equal | BinaryOperator::NotEqual if self.has_text(tree, left, right) =>
+                { self.begin_comparison(tree, span, operator, left, right) }
             BinaryOperator::And | BinaryOperator::Or => {
                 self.then_fresh(left, Task::Logic(operator, right))
             }
             BinaryOperator::Divide | BinaryOperator::Remainder => {
-                self.begin_division(span, operator, left, right)
+                self.begin_division(tree, span, operator, left, right)
             }
             _ => self.then(&[
                 Task::Evaluate(left, None),
@@ -129,18 +136,21 @@ impl Emitter<'_> {
     }
 
     /// Whether a side of a comparison is a text. Two places with texts can't be compared.
-    fn has_text(&self, left: ExpressionAt, right: ExpressionAt) -> bool {
-        self.text_of(left).is_some() || self.text_of(right).is_some() || self.is_text(left)
+    fn has_text(&self, tree: &Tree<'_>, left: ExpressionAt, right: ExpressionAt) -> bool {
+        self.text_of(tree, left).is_some()
+            || self.text_of(tree, right).is_some()
+            || self.is_text(tree, left)
     }
 
     pub fn begin_division(
         &mut self,
+        tree: &Tree<'_>,
         span: Span,
         operator: BinaryOperator,
         left: ExpressionAt,
         right: ExpressionAt,
     ) {
-        let divisor = self.known_number(right);
+        let divisor = self.known_number(tree, right);
         if divisor == Some(0) {
             return self.error(span, ErrorKind::DIVIDES_BY_ZERO);
         }
@@ -238,11 +248,11 @@ impl Emitter<'_> {
 
     /// `&&` and `||`, after the left side. The right side runs only if that matters and it calls a
     /// function.
-    pub fn logic(&mut self, operator: BinaryOperator, right: ExpressionAt) {
+    pub fn logic(&mut self, tree: &Tree<'_>, operator: BinaryOperator, right: ExpressionAt) {
         let value = self.pop_value();
         let register = value.register;
         self.code.is_zero(register, register);
-        if !self.has_call(right) {
+        if !self.has_call(tree, right) {
             return self.then(&[
                 Task::Push(value),
                 Task::Evaluate(right, None),
@@ -302,17 +312,17 @@ impl Emitter<'_> {
     }
 
     /// The number at the last place.
-    pub fn load(&mut self, at: ExpressionAt, into: Option<Register>) {
+    pub fn load(&mut self, tree: &Tree<'_>, at: ExpressionAt, into: Option<Register>) {
         let place = self.pop_place();
-        if !self.is_number(&place) {
-            let span = self.span_of(at);
+        if !is_number(&place) {
+            let span = self.span_of(tree, at);
             return self.type_error(span, ErrorKind::NOT_NUMBER, place.value_type);
         }
         if let Some(count) = self.array_length(&place) {
             return self.push_known(count, into);
         }
         if self.fallible(&place) > 0 {
-            return self.error_at(at, ErrorKind::MAY_BE_ABSENT);
+            return self.error_at(tree, at, ErrorKind::MAY_BE_ABSENT);
         }
         self.load_place(&place, into)
     }
@@ -363,14 +373,14 @@ impl Emitter<'_> {
     }
 
     /// The number at the last place, if it is there. The register has the default.
-    pub fn load_or(&mut self, at: ExpressionAt, register: Register) {
+    pub fn load_or(&mut self, tree: &Tree<'_>, at: ExpressionAt, register: Register) {
         let place = self.pop_place();
-        if !self.is_number(&place) {
-            let span = self.span_of(at);
+        if !is_number(&place) {
+            let span = self.span_of(tree, at);
             return self.type_error(span, ErrorKind::DEFAULT_OF, place.value_type);
         }
         if matches!(place.root, Root::Number(_)) || self.fallible(&place) == 0 {
-            return self.error_at(at, ErrorKind::NEEDLESS_DEFAULT);
+            return self.error_at(tree, at, ErrorKind::NEEDLESS_DEFAULT);
         }
         self.code.usage.hold(register);
         self.read_place(register, &place);
@@ -379,14 +389,14 @@ impl Emitter<'_> {
     }
 
     /// Whether an expression calls a function.
-    pub fn has_call(&mut self, at: ExpressionAt) -> bool {
+    pub fn has_call(&mut self, tree: &Tree<'_>, at: ExpressionAt) -> bool {
         let mut waiting = Vec::new(self.alloc);
         add_expression(&mut waiting, at, &mut self.code.trouble);
         for _ in 0..MOST_EXPRESSIONS {
             let Some(at) = waiting.pop() else {
                 return false;
             };
-            if self.add_parts(&mut waiting, at) {
+            if self.add_parts(tree, &mut waiting, at) {
                 return true;
             }
         }
@@ -394,8 +404,12 @@ impl Emitter<'_> {
     }
 
     /// Adds the parts of an expression, and returns whether it is a call.
-    fn add_parts(&mut self, waiting: &mut Vec<ExpressionAt>, at: ExpressionAt) -> bool {
-        let tree = self.tree;
+    fn add_parts(
+        &mut self,
+        tree: &Tree<'_>,
+        waiting: &mut Vec<ExpressionAt>,
+        at: ExpressionAt,
+    ) -> bool {
         let Some(expression) = tree.expression(at) else {
             return false;
         };
@@ -417,8 +431,8 @@ impl Emitter<'_> {
     }
 
     /// The text that an expression always is.
-    pub fn text_of(&self, at: ExpressionAt) -> Option<Range> {
-        match self.fold(at) {
+    pub fn text_of(&self, tree: &Tree<'_>, at: ExpressionAt) -> Option<Range> {
+        match self.fold(tree, at) {
             Ok(Folded::Text(bytes)) => Some(bytes),
             _ => None,
         }
@@ -426,12 +440,13 @@ impl Emitter<'_> {
 
     fn begin_comparison(
         &mut self,
+        tree: &Tree<'_>,
         span: Span,
         operator: BinaryOperator,
         left: ExpressionAt,
         right: ExpressionAt,
     ) {
-        let (place, text) = match (self.text_of(left), self.text_of(right)) {
+        let (place, text) = match (self.text_of(tree, left), self.text_of(tree, right)) {
             (None, Some(text)) => (left, text),
             (Some(text), None) => (right, text),
             _ => return self.error(span, ErrorKind::TWO_TEXTS),
@@ -440,15 +455,21 @@ impl Emitter<'_> {
     }
 
     /// Whether the text at the last place has these bytes.
-    pub fn compare(&mut self, at: ExpressionAt, operator: BinaryOperator, bytes: Range) {
+    pub fn compare(
+        &mut self,
+        tree: &Tree<'_>,
+        at: ExpressionAt,
+        operator: BinaryOperator,
+        bytes: Range,
+    ) {
         let place = self.pop_place();
         if place.is_length || place.value_type != TypeAt::TEXT {
-            let span = self.span_of(at);
+            let span = self.span_of(tree, at);
             return self.type_error(span, ErrorKind::TEXT_WANTED, place.value_type);
         }
         let same = self.code.literal_held(0);
         let walk = self.walk(&place, false);
-        self.compare_bytes(same, walk.register, bytes);
+        self.compare_bytes(tree, same, walk.register, bytes);
         self.close_walk(&walk);
         if operator == BinaryOperator::NotEqual {
             self.code.is_zero(same, same);
@@ -457,8 +478,7 @@ impl Emitter<'_> {
         self.push_value(same, true)
     }
 
-    fn compare_bytes(&mut self, same: Register, text: Register, bytes: Range) {
-        let tree = self.tree;
+    fn compare_bytes(&mut self, tree: &Tree<'_>, same: Register, text: Register, bytes: Range) {
         let bytes = tree.bytes(bytes);
         let comparison = Comparison {
             same,
@@ -513,14 +533,14 @@ impl Emitter<'_> {
     }
 
     /// The most digits of a number.
-    pub fn digits_of(&self, at: ExpressionAt) -> usize {
-        let Some(expression) = self.tree.expression(at) else {
+    pub fn digits_of(&self, tree: &Tree<'_>, at: ExpressionAt) -> usize {
+        let Some(expression) = tree.expression(at) else {
             return MOST_DIGITS;
         };
         match expression.kind {
-            ExpressionKind::Place(_) => self.digits_of_place(at),
+            ExpressionKind::Place(_) => self.digits_of_place(tree, at),
             ExpressionKind::Binary(BinaryOperator::Remainder, _, right) => {
-                self.digits_below(right)
+                self.digits_below(tree, right)
             }
             _ if is_truth(expression.kind) => 1,
             _ => MOST_DIGITS,
@@ -528,33 +548,33 @@ impl Emitter<'_> {
     }
 
     /// The most digits of a remainder, by its divisor.
-    fn digits_below(&self, divisor: ExpressionAt) -> usize {
-        match self.known_number(divisor) {
+    fn digits_below(&self, tree: &Tree<'_>, divisor: ExpressionAt) -> usize {
+        match self.known_number(tree, divisor) {
             Some(divisor) => decimal_digits(divisor.wrapping_abs().wrapping_sub(1)),
             None => MOST_DIGITS,
         }
     }
 
-    fn digits_of_place(&self, at: ExpressionAt) -> usize {
-        if let Some(name) = self.plain_name(at) {
+    fn digits_of_place(&self, tree: &Tree<'_>, at: ExpressionAt) -> usize {
+        if let Some(name) = self.plain_name(tree, at) {
             if let Some(name) = self.names.get(name) {
                 if let Meaning::Number { digits, .. } = name.meaning {
                     return digits;
                 }
             }
         }
-        if self.is_length(at) {
+        if self.is_length(tree, at) {
             return 10;
         }
         MOST_DIGITS
     }
 
     /// Whether a number is known not to be negative.
-    pub fn is_positive(&self, at: ExpressionAt) -> bool {
-        let Some(expression) = self.tree.expression(at) else {
+    pub fn is_positive(&self, tree: &Tree<'_>, at: ExpressionAt) -> bool {
+        let Some(expression) = tree.expression(at) else {
             return false;
         };
-        if let Some(name) = self.plain_name(at) {
+        if let Some(name) = self.plain_name(tree, at) {
             return match self.names.get(name) {
                 Some(name) => {
                     matches!(

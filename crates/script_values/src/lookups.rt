@@ -1,16 +1,17 @@
 //! `let`, `if let` and `use`.
 
-use crate::changes::Method;
+use crate::changes::{Method, method_at};
 use crate::emitter::Emitter;
+use crate::places::{is_method, is_number, steps_of};
 use crate::task::{Handler, Task, Walk};
-use crate::walks::Removed;
+use crate::walks::{Removed, own_handler};
 use client_code::Operation;
 use script_code::{
     About, ErrorKind, Key, Known, MOST_DIGITS, Meaning, NOWHERE, Operand, Place, Register, Root,
     Shape, TypeAt, WayKind,
 };
 use script_syntax::{
-    Block, Container, ExpressionAt, Held, Range, Span, Statement, StatementKind, Type, Value,
+    Block, Container, ExpressionAt, Held, Range, Span, Statement, StatementKind, Tree, Type, Value,
     ValueKind,
 };
 
@@ -52,45 +53,35 @@ struct Push {
     pushed: Option<Register>,
 }
 
-impl Emitter<'_> {
-    /// The name and the value of a `let` or an `if let`.
-    fn named_value(&self, statement: &Statement) -> Option<(Span, Value)> {
-        match statement.kind {
-            StatementKind::Let { name, value } | StatementKind::IfLet { name, value } => {
-                Some((name, value))
-            }
-            _ => None,
-        }
-    }
-
-    pub fn begin_let(&mut self, statement: Statement) {
-        let Some((name, value)) = self.named_value(&statement) else {
+impl Emitter {
+    pub fn begin_let(&mut self, tree: &Tree<'_>, statement: Statement) {
+        let Some((name, value)) = named_value(&statement) else {
             return self.skip();
         };
-        if self.is_object_name(name) {
+        if self.is_object_name(tree, name) {
             return self.error(name, ErrorKind::OBJECT_NAME);
         }
         if statement.body.is_some() {
-            return self.begin_lookup(statement);
+            return self.begin_lookup(tree, statement);
         }
         let ValueKind::Expression(at) = value.kind else {
             return self.skip();
         };
-        if !self.is_place(at) || self.is_variable(at) {
+        if !self.is_place(tree, at) || self.is_variable(tree, at) {
             return self.then_fresh(at, Task::BindNumber(name, MOST_DIGITS));
         }
         self.then_place(at, Task::DoLet(name, at))
     }
 
-    fn is_object_name(&self, name: Span) -> bool {
-        let word = self.word(name);
-        let found = self.program.object_named(self.tree, word);
+    fn is_object_name(&self, tree: &Tree<'_>, name: Span) -> bool {
+        let word = tree.word(name);
+        let found = self.program.object_named(tree, word);
         found.is_some()
     }
 
     /// Whether an expression is the name of a number.
-    pub fn is_variable(&self, at: ExpressionAt) -> bool {
-        match self.plain_name(at) {
+    pub fn is_variable(&self, tree: &Tree<'_>, at: ExpressionAt) -> bool {
+        match self.plain_name(tree, at) {
             Some(name) => match self.names.get(name) {
                 Some(name) => matches!(name.meaning, Meaning::Number { .. }),
                 None => false,
@@ -100,9 +91,9 @@ impl Emitter<'_> {
     }
 
     /// Gives the last place a name, or its number if it is one.
-    pub fn finish_let(&mut self, name: Span, at: ExpressionAt) {
+    pub fn finish_let(&mut self, tree: &Tree<'_>, name: Span, at: ExpressionAt) {
         let place = self.pop_place();
-        if self.is_number(&place) {
+        if is_number(&place) {
             let digits = if place.is_length { 10 } else { MOST_DIGITS };
             self.push_place(place);
             return self.then(&[
@@ -112,7 +103,7 @@ impl Emitter<'_> {
             ]);
         }
         if self.fallible(&place) > 0 {
-            return self.error_at(at, ErrorKind::LET_ABSENT);
+            return self.error_at(tree, at, ErrorKind::LET_ABSENT);
         }
         if self.openers(&place) > 0 {
             return self.bind_place(name, place);
@@ -157,44 +148,44 @@ impl Emitter<'_> {
 
     /// What is done if the lookup of a statement fails.
     fn lookup_handler(&mut self, statement: Statement) -> Handler {
-        let Some((_, value)) = self.named_value(&statement) else {
+        let Some((_, value)) = named_value(&statement) else {
             self.skip();
             return Handler::Nothing;
         };
         let is_lookup = matches!(value.kind, ValueKind::Expression(_));
         if is_lookup && matches!(statement.kind, StatementKind::IfLet { .. }) {
-            return self.own_handler(statement);
+            return own_handler(statement);
         }
         self.handler(statement)
     }
 
-    pub fn begin_lookup(&mut self, statement: Statement) {
-        let Some((name, value)) = self.named_value(&statement) else {
+    pub fn begin_lookup(&mut self, tree: &Tree<'_>, statement: Statement) {
+        let Some((name, value)) = named_value(&statement) else {
             return self.skip();
         };
         match value.kind {
-            ValueKind::New(written) => self.make_new(statement, name, written),
+            ValueKind::New(written) => self.make_new(tree, statement, name, written),
             ValueKind::Take(at) => self.then_place(at, Task::DoTake(statement)),
-            ValueKind::Expression(at) => self.look_up(statement, value.span, at),
+            ValueKind::Expression(at) => self.look_up(tree, statement, value.span, at),
         }
     }
 
-    fn look_up(&mut self, statement: Statement, span: Span, at: ExpressionAt) {
-        if self.is_method(at) {
-            return self.begin_method(at, statement, true);
+    fn look_up(&mut self, tree: &Tree<'_>, statement: Statement, span: Span, at: ExpressionAt) {
+        if is_method(tree, at) {
+            return self.begin_method(tree, at, statement, true);
         }
-        if !self.is_place(at) {
+        if !self.is_place(tree, at) {
             return self.error(span, ErrorKind::NOT_LOOKUP);
         }
         self.then_place(at, Task::DoLookup(statement))
     }
 
-    fn make_new(&mut self, statement: Statement, name: Span, written: Type) {
-        let value_type = match self.written_type(written) {
+    fn make_new(&mut self, tree: &Tree<'_>, statement: Statement, name: Span, written: Type) {
+        let value_type = match self.written_type(tree, written) {
             Ok(found) => found,
             Err(span) => {
-                let word = self.word(span);
-                let near = self.near_struct(word);
+                let word = tree.word(span);
+                let near = self.near_struct(tree, word);
                 return self.error_about(span, ErrorKind::NO_TYPE, About::near(near));
             }
         };
@@ -238,8 +229,8 @@ impl Emitter<'_> {
         self.then(&[Task::Else, Task::Handle(handler, code), Task::EndPart])
     }
 
-    pub fn take_owned(&mut self, statement: Statement) {
-        let Some((name, _)) = self.named_value(&statement) else {
+    pub fn take_owned(&mut self, tree: &Tree<'_>, statement: Statement) {
+        let Some((name, _)) = named_value(&statement) else {
             return self.skip();
         };
         let place = self.pop_place();
@@ -249,7 +240,7 @@ impl Emitter<'_> {
         };
         self.check_changeable(&place);
         let handler = self.lookup_handler(statement);
-        let code = self.body_code(&statement, &place, handler);
+        let code = self.body_code(tree, &statement, &place, handler);
         let register = self.code.take_held();
         let walk = self.walk(&place, false);
         self.remove(&place, Removed::Below, statement.span);
@@ -264,8 +255,8 @@ impl Emitter<'_> {
     }
 
     /// `if let` at the last place.
-    pub fn finish_lookup(&mut self, statement: Statement) {
-        let Some((name, _)) = self.named_value(&statement) else {
+    pub fn finish_lookup(&mut self, tree: &Tree<'_>, statement: Statement) {
+        let Some((name, _)) = named_value(&statement) else {
             return self.skip();
         };
         let mut place = self.pop_place();
@@ -279,20 +270,27 @@ impl Emitter<'_> {
         if is_box {
             self.enter_one(&mut place);
         }
-        if self.is_number(&place) {
+        if is_number(&place) {
             return self.look_up_number(statement, name, &place, handler);
         }
-        self.look_up_place(statement, name, place, handler)
+        self.look_up_place(tree, statement, name, place, handler)
     }
 
-    fn look_up_place(&mut self, statement: Statement, name: Span, place: Place, handler: Handler) {
+    fn look_up_place(
+        &mut self,
+        tree: &Tree<'_>,
+        statement: Statement,
+        name: Span,
+        place: Place,
+        handler: Handler,
+    ) {
         let mut place = place;
         let names = self.names.len();
-        self.keep_keys(&mut place, body_of(&statement));
+        self.keep_keys(tree, &mut place, body_of(&statement));
         if self.is_flat {
             return self.look_up_flat(statement, name, &place, handler, names);
         }
-        let code = self.body_code(&statement, &place, handler);
+        let code = self.body_code(tree, &statement, &place, handler);
         let walk = self.walk(&place, false);
         self.bind_walk(name, &place, &walk);
         self.then(&[
@@ -305,11 +303,12 @@ impl Emitter<'_> {
     /// remove something comes between.
     fn body_code(
         &mut self,
+        tree: &Tree<'_>,
         statement: &Statement,
         place: &Place,
         handler: Handler,
     ) -> Option<Register> {
-        let removes = matches!(handler, Handler::Part(_)) && self.removes(body_of(statement));
+        let removes = matches!(handler, Handler::Part(_)) && self.removes(tree, body_of(statement));
         self.code_unless_removed(place, handler, removes)
     }
 
@@ -416,8 +415,7 @@ impl Emitter<'_> {
 
     // use
 
-    pub fn begin_use(&mut self, statement: Statement, held: Range) {
-        let tree = self.tree;
+    pub fn begin_use(&mut self, tree: &Tree<'_>, statement: Statement, held: Range) {
         let places = tree.held(held);
         let Some(first) = places.first() else {
             return;
@@ -437,22 +435,14 @@ impl Emitter<'_> {
         self.then_place(first.place, Task::Hold(statement, 0, Some(code)))
     }
 
-    /// The place of a `use` with this number, if it has one.
-    fn held_place(&self, statement: &Statement, number: usize) -> Option<Held> {
-        let StatementKind::Use(held) = statement.kind else {
-            return None;
-        };
-        self.tree.held(held).get(number).copied()
-    }
-
     /// The name of a place that a `use` holds.
-    fn held_name(&mut self, held: &Held, place: &Place) -> Span {
-        let span = self.span_of(held.place);
+    fn held_name(&mut self, tree: &Tree<'_>, held: &Held, place: &Place) -> Span {
+        let span = self.span_of(tree, held.place);
         if matches!(place.root, Root::Number(_)) {
             self.error(span, ErrorKind::NEEDLESS_USE);
             return NOWHERE;
         }
-        match (held.name, self.steps_of(held.place, 0)) {
+        match (held.name, steps_of(tree, held.place, 0)) {
             (Some(name), _) => name,
             (None, Some(steps)) if steps.is_empty() => span,
             (None, _) => {
@@ -462,46 +452,36 @@ impl Emitter<'_> {
         }
     }
 
-    /// The tasks after the place of a `use` with this number.
-    fn after_held(
-        &self,
+    /// The last place, which is that of a `use` with this number, and its name. Its keys are kept.
+    fn begin_hold(
+        &mut self,
+        tree: &Tree<'_>,
         statement: &Statement,
         number: usize,
-        code: Option<Register>,
-        names: usize,
-    ) -> [Task; 2] {
-        let next = number.saturating_add(1);
-        match self.held_place(statement, next) {
-            Some(held) => [
-                Task::Place(held.place, 0),
-                Task::Hold(*statement, next, code),
-            ],
-            None => [
-                Task::Body(body_of(statement), names, true),
-                Task::EndScope(names),
-            ],
-        }
-    }
-
-    /// The last place, which is that of a `use` with this number, and its name. Its keys are kept.
-    fn begin_hold(&mut self, statement: &Statement, number: usize) -> Option<(Span, Place)> {
+    ) -> Option<(Span, Place)> {
         let mut place = self.pop_place();
-        let held = self.held_place(statement, number)?;
-        let name = self.held_name(&held, &place);
-        self.keep_keys(&mut place, body_of(statement));
+        let held = held_place(tree, statement, number)?;
+        let name = self.held_name(tree, &held, &place);
+        self.keep_keys(tree, &mut place, body_of(statement));
         Some((name, place))
     }
 
     /// Keeps the last place for a `use`, and continues with the next one.
-    pub fn hold(&mut self, statement: Statement, number: usize, code: Option<Register>) {
+    pub fn hold(
+        &mut self,
+        tree: &Tree<'_>,
+        statement: Statement,
+        number: usize,
+        code: Option<Register>,
+    ) {
         let names = self.names.len();
-        let Some((name, place)) = self.begin_hold(&statement, number) else {
+        let Some((name, place)) = self.begin_hold(tree, &statement, number) else {
             return;
         };
         let close = self.hold_place(statement, name, &place, code);
         self.then(&[Task::EndScope(names), close]);
         let inner = self.names.len();
-        let [first, second] = self.after_held(&statement, number, code, inner);
+        let [first, second] = after_held(tree, &statement, number, code, inner);
         self.then(&[first, second])
     }
 
@@ -528,9 +508,15 @@ impl Emitter<'_> {
     }
 
     /// Finds or makes the last place, and binds it without holding it.
-    pub fn hold_flat(&mut self, statement: Statement, number: usize, code: Register) {
+    pub fn hold_flat(
+        &mut self,
+        tree: &Tree<'_>,
+        statement: Statement,
+        number: usize,
+        code: Register,
+    ) {
         let names = self.names.len();
-        let Some((name, place)) = self.begin_hold(&statement, number) else {
+        let Some((name, place)) = self.begin_hold(tree, &statement, number) else {
             return;
         };
         let walk = self.walk(&place, true);
@@ -538,13 +524,13 @@ impl Emitter<'_> {
         self.bind_place(name, place);
         self.use_last_name();
         self.push_task(Task::EndScope(names));
-        self.after_flat(statement, number, code)
+        self.after_flat(tree, statement, number, code)
     }
 
     /// Continues with the next place of a `use`, or its body.
-    fn after_flat(&mut self, statement: Statement, number: usize, code: Register) {
+    fn after_flat(&mut self, tree: &Tree<'_>, statement: Statement, number: usize, code: Register) {
         let next = number.saturating_add(1);
-        match self.held_place(&statement, next) {
+        match held_place(tree, &statement, next) {
             Some(held) => {
                 let hold = Task::HoldFlat(statement, next, code);
                 self.then_place(held.place, hold)
@@ -570,11 +556,11 @@ impl Emitter<'_> {
     // push and pop with a name
 
     /// `if let` with a pushed item, at the last place. Its value was worked out, if it has one.
-    pub fn push_named(&mut self, statement: Statement, has_value: bool) {
-        let Some((name, value)) = self.named_value(&statement) else {
+    pub fn push_named(&mut self, tree: &Tree<'_>, statement: Statement, has_value: bool) {
+        let Some((name, value)) = named_value(&statement) else {
             return self.skip();
         };
-        let Some((span, method)) = self.called(value) else {
+        let Some((span, method)) = called(tree, value) else {
             return self.skip();
         };
         let mut place = self.pop_place();
@@ -595,20 +581,21 @@ impl Emitter<'_> {
         };
         let handler = self.lookup_handler(statement);
         let names = self.names.len();
-        self.keep_keys(&mut place, body_of(&statement));
-        self.bind_pushed(statement, &push, &place, handler, names)
+        self.keep_keys(tree, &mut place, body_of(&statement));
+        self.bind_pushed(tree, statement, &push, &place, handler, names)
     }
 
     /// Pushes an item, binds it, and does the body. The names begin at a position.
     fn bind_pushed(
         &mut self,
+        tree: &Tree<'_>,
         statement: Statement,
         push: &Push,
         place: &Place,
         handler: Handler,
         names: usize,
     ) {
-        let code = self.body_code(&statement, place, handler);
+        let code = self.body_code(tree, &statement, place, handler);
         let index = self.code.literal_held(0);
         let walk = self.walk(place, true);
         let register = self.push_at(push, &walk, index);
@@ -699,11 +686,11 @@ impl Emitter<'_> {
     }
 
     /// `if let` with a popped item, at the last place.
-    pub fn pop_named(&mut self, statement: Statement) {
-        let Some((name, value)) = self.named_value(&statement) else {
+    pub fn pop_named(&mut self, tree: &Tree<'_>, statement: Statement) {
+        let Some((name, value)) = named_value(&statement) else {
             return self.skip();
         };
-        let Some((span, method)) = self.called(value) else {
+        let Some((span, method)) = called(tree, value) else {
             return self.skip();
         };
         let mut place = self.pop_place();
@@ -786,12 +773,51 @@ impl Emitter<'_> {
             self.code.read(Operation::Load, to, to);
         }
     }
+}
 
-    /// The push or pop that a value is, and the span of its name.
-    fn called(&self, value: Value) -> Option<(Span, Method)> {
-        match value.kind {
-            ValueKind::Expression(at) => self.method_at(at),
-            _ => None,
+/// The name and the value of a `let` or an `if let`.
+fn named_value(statement: &Statement) -> Option<(Span, Value)> {
+    match statement.kind {
+        StatementKind::Let { name, value } | StatementKind::IfLet { name, value } => {
+            Some((name, value))
         }
+        _ => None,
+    }
+}
+
+/// The place of a `use` with this number, if it has one.
+fn held_place(tree: &Tree<'_>, statement: &Statement, number: usize) -> Option<Held> {
+    let StatementKind::Use(held) = statement.kind else {
+        return None;
+    };
+    tree.held(held).get(number).copied()
+}
+
+/// The tasks after the place of a `use` with this number.
+fn after_held(
+    tree: &Tree<'_>,
+    statement: &Statement,
+    number: usize,
+    code: Option<Register>,
+    names: usize,
+) -> [Task; 2] {
+    let next = number.saturating_add(1);
+    match held_place(tree, statement, next) {
+        Some(held) => [
+            Task::Place(held.place, 0),
+            Task::Hold(*statement, next, code),
+        ],
+        None => [
+            Task::Body(body_of(statement), names, true),
+            Task::EndScope(names),
+        ],
+    }
+}
+
+/// The push or pop that a value is, and the span of its name.
+fn called(tree: &Tree<'_>, value: Value) -> Option<(Span, Method)> {
+    match value.kind {
+        ValueKind::Expression(at) => method_at(tree, at),
+        _ => None,
     }
 }

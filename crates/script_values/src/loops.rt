@@ -9,13 +9,13 @@ use script_code::{
     COUNT, ErrorKind, Key, Known, MOST_DIGITS, Meaning, Operand, Place, Register, Shape, TypeAt,
     WayKind,
 };
-use script_syntax::{ExpressionAt, Source, Span, Statement, StatementKind};
+use script_syntax::{ExpressionAt, Source, Span, Statement, StatementKind, Tree};
 
 /// The most bytes of an input.
 const MOST_INPUT: i32 = 1 << 20;
 
-impl Emitter<'_> {
-    pub fn begin_for(&mut self, statement: Statement) {
+impl Emitter {
+    pub fn begin_for(&mut self, tree: &Tree<'_>, statement: Statement) {
         self.forget_made();
         let StatementKind::For {
             key,
@@ -29,26 +29,26 @@ impl Emitter<'_> {
         match source {
             Source::Input(_) => match key {
                 Some(key) => self.error(key, ErrorKind::INPUT_PAIR),
-                None => self.begin_input(statement, max),
+                None => self.begin_input(tree, statement, max),
             },
             Source::Numbers(first, end) => match key {
                 Some(key) => self.error(key, ErrorKind::RANGE_PAIR),
-                None => self.begin_numbers(statement, first, end),
+                None => self.begin_numbers(tree, statement, first, end),
             },
-            Source::Place(at) => self.begin_items(statement, at),
+            Source::Place(at) => self.begin_items(tree, statement, at),
         }
     }
 
-    fn begin_items(&mut self, statement: Statement, at: ExpressionAt) {
-        if !self.is_place(at) {
-            return self.error_at(at, ErrorKind::NO_SOURCE);
+    fn begin_items(&mut self, tree: &Tree<'_>, statement: Statement, at: ExpressionAt) {
+        if !self.is_place(tree, at) {
+            return self.error_at(tree, at, ErrorKind::NO_SOURCE);
         }
         self.then_place(at, Task::DoItems(statement))
     }
 
-    fn begin_input(&mut self, statement: Statement, max: Option<ExpressionAt>) {
+    fn begin_input(&mut self, tree: &Tree<'_>, statement: Statement, max: Option<ExpressionAt>) {
         let turns = match max {
-            Some(max) => self.turns(max),
+            Some(max) => self.turns(tree, max),
             None => MOST_INPUT,
         };
         let go = self.code.literal_held(1);
@@ -69,8 +69,14 @@ impl Emitter<'_> {
         self.push_task(Task::BeginLoop(found))
     }
 
-    fn begin_numbers(&mut self, statement: Statement, first: ExpressionAt, end: ExpressionAt) {
-        if self.known_number(end).is_some() {
+    fn begin_numbers(
+        &mut self,
+        tree: &Tree<'_>,
+        statement: Statement,
+        first: ExpressionAt,
+        end: ExpressionAt,
+    ) {
+        if self.known_number(tree, end).is_some() {
             return self.then_fresh(first, Task::DoNumbers(statement));
         }
         self.then_fresh(end, Task::DoNumbers(statement));
@@ -78,7 +84,7 @@ impl Emitter<'_> {
     }
 
     /// A loop over numbers, after its first number and its end, if that isn't known.
-    pub fn loop_numbers(&mut self, statement: Statement) {
+    pub fn loop_numbers(&mut self, tree: &Tree<'_>, statement: Statement) {
         let StatementKind::For {
             source: Source::Numbers(first, last),
             max,
@@ -87,14 +93,14 @@ impl Emitter<'_> {
         else {
             return;
         };
-        let low = self.known_number(first);
-        let high = self.known_number(last);
+        let low = self.known_number(tree, first);
+        let high = self.known_number(tree, last);
         let end = match high {
             Some(high) => End::Literal(high),
             None => End::Register(self.hold_value()),
         };
         let index = self.hold_value();
-        let turns = self.number_turns(statement.span, max, low, high);
+        let turns = self.number_turns(tree, statement.span, max, low, high);
         let turn = Turn::Numbers {
             index,
             end,
@@ -114,13 +120,14 @@ impl Emitter<'_> {
     /// The most turns of a loop over numbers, of which some are known.
     fn number_turns(
         &mut self,
+        tree: &Tree<'_>,
         span: Span,
         max: Option<ExpressionAt>,
         low: Option<i64>,
         high: Option<i64>,
     ) -> i32 {
         match (max, low, high) {
-            (Some(max), _, _) => self.turns(max),
+            (Some(max), _, _) => self.turns(tree, max),
             (None, Some(low), Some(high)) => self.known_turns(span, high.saturating_sub(low)),
             _ => {
                 self.error(span, ErrorKind::LOOP_BOUND);
@@ -170,7 +177,7 @@ impl Emitter<'_> {
     }
 
     /// A loop over the items of the last place.
-    pub fn loop_items(&mut self, statement: Statement) {
+    pub fn loop_items(&mut self, tree: &Tree<'_>, statement: Statement) {
         let StatementKind::For {
             source: Source::Place(at),
             max,
@@ -183,18 +190,18 @@ impl Emitter<'_> {
         self.enter_content(&mut place);
         let shape = self.program.types.shape(place.value_type);
         if place.is_length || shape.item().is_none() {
-            let span = self.span_of(at);
+            let span = self.span_of(tree, at);
             return self.type_error(span, ErrorKind::NOT_CONTAINER, place.value_type);
         }
-        let turns = self.needed_turns(statement.span, max);
-        self.open_items(statement, place, turns)
+        let turns = self.needed_turns(tree, statement.span, max);
+        self.open_items(tree, statement, place, turns)
     }
 
-    fn open_items(&mut self, statement: Statement, place: Place, turns: i32) {
+    fn open_items(&mut self, tree: &Tree<'_>, statement: Statement, place: Place, turns: i32) {
         let mut place = place;
         let names = self.names.len();
         self.push_task(Task::EndScope(names));
-        self.keep_keys(&mut place, body_of(&statement));
+        self.keep_keys(tree, &mut place, body_of(&statement));
         let key = self.code.literal_held(0);
         let go = self.code.literal_held(0);
         self.find_first(&place, key, go);
@@ -223,12 +230,12 @@ impl Emitter<'_> {
         self.code.open(operation, registers, Operand::Plain(0), key, Known::Number)
     }
 
-    pub fn begin_while(&mut self, statement: Statement) {
+    pub fn begin_while(&mut self, tree: &Tree<'_>, statement: Statement) {
         self.forget_made();
         let StatementKind::While { condition, max } = statement.kind else {
             return;
         };
-        let turns = self.needed_turns(statement.span, max);
+        let turns = self.needed_turns(tree, statement.span, max);
         let go = self.code.take_held();
         self.push_task(Task::Release(go));
         self.then_loop(statement, go, turns, Turn::While(condition));

@@ -2,33 +2,33 @@
 
 use crate::emitter::Emitter;
 use script_code::StructAt;
-use script_syntax::Span;
+use script_syntax::{Span, Tree};
 
-impl Emitter<'_> {
+impl Emitter {
     /// The local name, object, constant or function that may be meant by a word.
-    pub fn near_name(&self, word: &[u8]) -> Option<Span> {
+    pub fn near_name(&self, tree: &Tree<'_>, word: &[u8]) -> Option<Span> {
         for name in self.names.inner() {
-            if name.is_visible() && is_near(self.word(name.span), word) {
+            if name.is_visible() && is_near(tree.word(name.span), word) {
                 return Some(name.span);
             }
         }
         for object in self.program.objects.as_slice() {
-            if is_near(self.word(object.name), word) {
+            if is_near(tree.word(object.name), word) {
                 return Some(object.name);
             }
         }
         for value in self.program.values.as_slice() {
-            if is_near(self.word(value.name), word) {
+            if is_near(tree.word(value.name), word) {
                 return Some(value.name);
             }
         }
-        self.near_function(word)
+        self.near_function(tree, word)
     }
 
     /// The function that may be meant by a word.
-    pub fn near_function(&self, word: &[u8]) -> Option<Span> {
+    pub fn near_function(&self, tree: &Tree<'_>, word: &[u8]) -> Option<Span> {
         for function in self.program.functions.as_slice() {
-            if is_near(self.word(function.name), word) {
+            if is_near(tree.word(function.name), word) {
                 return Some(function.name);
             }
         }
@@ -36,9 +36,9 @@ impl Emitter<'_> {
     }
 
     /// The struct that may be meant by a word.
-    pub fn near_struct(&self, word: &[u8]) -> Option<Span> {
+    pub fn near_struct(&self, tree: &Tree<'_>, word: &[u8]) -> Option<Span> {
         for found in self.program.types.structs.as_slice() {
-            if is_near(self.word(found.name), word) {
+            if is_near(tree.word(found.name), word) {
                 return Some(found.name);
             }
         }
@@ -46,9 +46,9 @@ impl Emitter<'_> {
     }
 
     /// The field of a struct that may be meant by a word.
-    pub fn near_field(&self, found: StructAt, word: &[u8]) -> Option<Span> {
+    pub fn near_field(&self, tree: &Tree<'_>, found: StructAt, word: &[u8]) -> Option<Span> {
         for member in self.program.types.fields(found) {
-            if is_near(self.word(member.name), word) {
+            if is_near(tree.word(member.name), word) {
                 return Some(member.name);
             }
         }

@@ -50,7 +50,7 @@ struct Measure {
 /// What is shown instead of a number that is too wide.
 const ASTERISKS: &[u8; 18] = b"******************";
 
-impl Emitter<'_> {
+impl Emitter {
     /// Divides the last two numbers, which have registers of their own. The divisor may be known.
     pub fn divide(&mut self, operator: BinaryOperator, known: Option<i64>) {
         let divisor = self.pop_value().register;

@@ -8,13 +8,12 @@ use script_code::{
     append_bytes,
 };
 use script_syntax::{
-    ExpressionAt, Item, Range, SetOperator, Span, Statement, StatementKind, ValueKind,
+    ExpressionAt, Item, Range, SetOperator, Span, Statement, StatementKind, Tree, ValueKind,
 };
 
-impl Emitter<'_> {
+impl Emitter {
     /// Writes the first of these items, and then the others. Bytes that are known wait in `text`.
-    pub fn write_items(&mut self, items: Range, output: Output) {
-        let tree = self.tree;
+    pub fn write_items(&mut self, tree: &Tree<'_>, items: Range, output: Output) {
         let Some(item) = tree.items(items).first().copied() else {
             return self.end_items(output);
         };
@@ -25,25 +24,30 @@ impl Emitter<'_> {
         let Some(at) = item_value(&item) else {
             return self.error(item.value.span, ErrorKind::NUMBER_WANTED);
         };
-        if self.wait_known(&item, at, &output) {
+        if self.wait_known(tree, &item, at, &output) {
             return self.push_task(Task::Items(rest, output));
         }
         self.write_waiting(&output);
-        self.write_item(&item, at, rest, output)
+        self.write_item(tree, &item, at, rest, output)
     }
 
     /// Adds an item whose bytes are known to those that wait. Returns false for any other item.
-    fn wait_known(&mut self, item: &Item, at: ExpressionAt, output: &Output) -> bool {
-        let Ok(value) = self.fold(at) else {
+    fn wait_known(
+        &mut self,
+        tree: &Tree<'_>,
+        item: &Item,
+        at: ExpressionAt,
+        output: &Output,
+    ) -> bool {
+        let Ok(value) = self.fold(tree, at) else {
             return false;
         };
         let width = match item.width {
-            Some(width) => self.width(width, output),
+            Some(width) => self.width(tree, width, output),
             None => 0,
         };
         match value {
             Folded::Text(bytes) => {
-                let tree = self.tree;
                 self.wait(tree.bytes(bytes));
             }
             Folded::Number(value) => self.wait_number(value, width),
@@ -52,13 +56,13 @@ impl Emitter<'_> {
     }
 
     /// The width after `:`.
-    fn width(&mut self, at: ExpressionAt, output: &Output) -> usize {
-        let span = self.span_of(at);
+    fn width(&mut self, tree: &Tree<'_>, at: ExpressionAt, output: &Output) -> usize {
+        let span = self.span_of(tree, at);
         if let Output::Added(_) = output {
             self.error(span, ErrorKind::MISPLACED_WIDTH);
             return 0;
         }
-        match usize::try_from(self.needed_number(at)) {
+        match usize::try_from(self.needed_number(tree, at)) {
             Ok(width) if width >= 1 && width <= 18 => width,
             _ => {
                 self.error(span, ErrorKind::WIDTH);
@@ -134,10 +138,17 @@ impl Emitter<'_> {
         self.write_waiting(&output)
     }
 
-    fn write_item(&mut self, item: &Item, at: ExpressionAt, rest: Range, output: Output) {
+    fn write_item(
+        &mut self,
+        tree: &Tree<'_>,
+        item: &Item,
+        at: ExpressionAt,
+        rest: Range,
+        output: Output,
+    ) {
         let follows = Task::Items(rest, output);
         self.push_task(follows);
-        if self.is_text(at) {
+        if self.is_text(tree, at) {
             let write = match output {
                 Output::Printed { .. } => Task::WriteText(at),
                 Output::Added(target) => Task::TextCopy(target, at),
@@ -145,23 +156,23 @@ impl Emitter<'_> {
             return self.then_place(at, write);
         }
         if let Some(width) = item.width {
-            let width = self.width(width, &output);
+            let width = self.width(tree, width, &output);
             return self.then_fresh(at, Task::Padded(width, output));
         }
-        self.check_printable(at);
-        if self.ends_line_next(rest, &output) {
+        self.check_printable(tree, at);
+        if self.ends_line_next(tree, rest, &output) {
             return self.then(&[Task::Evaluate(at, None), Task::WriteLine]);
         }
         self.then_fresh(at, Task::Digits(at, output))
     }
 
-    fn check_printable(&mut self, at: ExpressionAt) {
-        if !self.is_place(at) {
+    fn check_printable(&mut self, tree: &Tree<'_>, at: ExpressionAt) {
+        if !self.is_place(tree, at) {
             return;
         }
-        match self.type_of(at) {
+        match self.type_of(tree, at) {
             Some(found) if found != TypeAt::INT && found != TypeAt::TEXT => {
-                let span = self.span_of(at);
+                let span = self.span_of(tree, at);
                 self.type_error(span, ErrorKind::NOT_PRINTABLE, found)
             }
             _ => {}
@@ -169,20 +180,19 @@ impl Emitter<'_> {
     }
 
     /// The text that an item always is.
-    fn item_text(&self, item: &Item) -> Option<Range> {
-        self.text_of(item_value(item)?)
+    fn item_text(&self, tree: &Tree<'_>, item: &Item) -> Option<Range> {
+        self.text_of(tree, item_value(item)?)
     }
 
     /// Whether a line ends before the next item.
-    fn ends_line_next(&self, rest: Range, output: &Output) -> bool {
+    fn ends_line_next(&self, tree: &Tree<'_>, rest: Range, output: &Output) -> bool {
         let Output::Printed { ends_line } = output else {
             return false;
         };
-        let tree = self.tree;
         let Some(item) = tree.items(rest).first() else {
             return *ends_line;
         };
-        match self.item_text(item) {
+        match self.item_text(tree, item) {
             Some(bytes) => tree.bytes(bytes).starts_with(b"\n"),
             None => false,
         }
@@ -195,16 +205,16 @@ impl Emitter<'_> {
         self.code.usage.tidy();
     }
 
-    pub fn write_number(&mut self, at: ExpressionAt, output: &Output) {
-        let (digits, is_positive) = (self.digits_of(at), self.is_positive(at));
+    pub fn write_number(&mut self, tree: &Tree<'_>, at: ExpressionAt, output: &Output) {
+        let (digits, is_positive) = (self.digits_of(tree, at), self.is_positive(tree, at));
         self.write_digits(digits, is_positive, output);
         self.code.usage.tidy();
     }
 
-    pub fn write_text(&mut self, at: ExpressionAt) {
+    pub fn write_text(&mut self, tree: &Tree<'_>, at: ExpressionAt) {
         let place = self.pop_place();
-        if self.fallible(&place) > 0 && !self.was_made(at) {
-            let span = self.span_of(at);
+        if self.fallible(&place) > 0 && !self.was_made(tree, at) {
+            let span = self.span_of(tree, at);
             self.warn(span, WarningKind::AbsentText);
         }
         let walk = self.walk(&place, false);
@@ -214,7 +224,7 @@ impl Emitter<'_> {
     }
 
     /// `text = items` and `text += items`, at the last place.
-    pub fn begin_text(&mut self, statement: Statement) {
+    pub fn begin_text(&mut self, tree: &Tree<'_>, statement: Statement) {
         let place = self.pop_place();
         let StatementKind::Set {
             operator,
@@ -232,12 +242,13 @@ impl Emitter<'_> {
         let replaces = operator == SetOperator::Set;
         self.check_changeable(&place);
         let handler = self.handler(statement);
-        self.open_text(&place, handler, replaces, items, max)
+        self.open_text(tree, &place, handler, replaces, items, max)
     }
 
     /// Begins a text at a place: opens the walk to it, and writes the items.
     fn open_text(
         &mut self,
+        tree: &Tree<'_>,
         place: &Place,
         handler: Handler,
         replaces: bool,
@@ -257,9 +268,9 @@ impl Emitter<'_> {
             max,
         };
         if replaces {
-            self.replace_text(&target, items);
+            self.replace_text(tree, &target, items);
         }
-        let left = self.items_left(&target, items);
+        let left = self.items_left(tree, &target, items);
         self.then(&[
             Task::Items(left, Output::Added(target)),
             Task::TextEnd(walk, target),
@@ -269,10 +280,9 @@ impl Emitter<'_> {
     }
 
     /// Empties a text, or sets it to its first item if that is known.
-    fn replace_text(&mut self, target: &TextTarget, items: Range) {
-        let tree = self.tree;
+    fn replace_text(&mut self, tree: &Tree<'_>, target: &TextTarget, items: Range) {
         let text = match tree.items(items).first() {
-            Some(item) => self.item_text(item),
+            Some(item) => self.item_text(tree, item),
             None => None,
         };
         let first = match text {
@@ -288,15 +298,14 @@ impl Emitter<'_> {
     }
 
     /// The items that `replace_text` leaves.
-    fn items_left(&self, target: &TextTarget, items: Range) -> Range {
-        let tree = self.tree;
+    fn items_left(&self, tree: &Tree<'_>, target: &TextTarget, items: Range) -> Range {
         let Some(item) = tree.items(items).first() else {
             return items;
         };
         let ValueKind::Expression(at) = item.value.kind else {
             return items;
         };
-        match self.text_of(at) {
+        match self.text_of(tree, at) {
             Some(bytes) if target.replaces && tree.bytes(bytes).len() <= LONGEST => Range {
                 first: items.first.saturating_add(1),
                 end: items.end,
@@ -313,13 +322,13 @@ impl Emitter<'_> {
     }
 
     /// Adds the bytes of the text at the last place to another text.
-    pub fn copy_text(&mut self, target: &TextTarget, at: ExpressionAt) {
+    pub fn copy_text(&mut self, tree: &Tree<'_>, target: &TextTarget, at: ExpressionAt) {
         let place = self.pop_place();
-        let span = self.span_of(at);
+        let span = self.span_of(tree, at);
         let Some(max) = target.max else {
             return self.error(span, ErrorKind::COPY_BOUND);
         };
-        let turns = self.turns(max);
+        let turns = self.turns(tree, max);
         if self.is_same(&place, &target.place) {
             return self.error(span, ErrorKind::ADDED_TO_ITSELF);
         }
@@ -370,20 +379,20 @@ impl Emitter<'_> {
     }
 
     /// The most turns of a loop, after `max`.
-    pub fn turns(&mut self, max: ExpressionAt) -> i32 {
-        match i32::try_from(self.needed_number(max)) {
+    pub fn turns(&mut self, tree: &Tree<'_>, max: ExpressionAt) -> i32 {
+        match i32::try_from(self.needed_number(tree, max)) {
             Ok(turns) if turns >= 1 && turns <= 1_000_000_000 => turns,
             _ => {
-                self.error(self.span_of(max), ErrorKind::TURNS);
+                self.error(self.span_of(tree, max), ErrorKind::TURNS);
                 1
             }
         }
     }
 
     /// The span of a loop or statement, for a bound that is missing.
-    pub fn needed_turns(&mut self, span: Span, max: Option<ExpressionAt>) -> i32 {
+    pub fn needed_turns(&mut self, tree: &Tree<'_>, span: Span, max: Option<ExpressionAt>) -> i32 {
         match max {
-            Some(max) => self.turns(max),
+            Some(max) => self.turns(tree, max),
             None => {
                 self.error(span, ErrorKind::LOOP_BOUND);
                 1

@@ -1,12 +1,12 @@
 //! Places: from their names and steps to a root and a way.
 
-use crate::emitter::Emitter;
+use crate::emitter::{Emitter, is_word};
 use crate::task::Task;
 use script_code::{
     About, ErrorKind, Key, Meaning, Object, ObjectKind, Place, Root, Shape, TypeAt, Way, WayKind,
     append,
 };
-use script_syntax::{Container, ExpressionAt, ExpressionKind, Range, Span, Step, StepKind};
+use script_syntax::{Container, ExpressionAt, ExpressionKind, Range, Span, Step, StepKind, Tree};
 
 /// A place that is being worked out.
 #[derive(Clone, Copy)]
@@ -18,130 +18,84 @@ struct Resolving {
     name: Span,
 }
 
-impl Emitter<'_> {
-    /// The steps of a place without the last `dropped` ones.
-    pub fn steps_of(&self, at: ExpressionAt, dropped: usize) -> Option<Range> {
-        match self.tree.expression(at)?.kind {
-            ExpressionKind::Place(steps) => Some(Range {
-                first: steps.first,
-                end: steps.end.saturating_sub(dropped),
-            }),
-            _ => None,
-        }
-    }
-
-    /// The last step of a place.
-    pub fn last_step(&self, at: ExpressionAt) -> Option<Step> {
-        let steps = self.steps_of(at, 0)?;
-        self.tree.steps(steps).last().copied()
-    }
-
-    /// Whether a place ends in a call of a method.
-    pub fn is_method(&self, at: ExpressionAt) -> bool {
-        match self.last_step(at) {
-            Some(step) => match step.kind {
-                StepKind::Method(_) => !self.is_word(step.span, "after"),
-                _ => false,
-            },
-            None => false,
-        }
-    }
-
+impl Emitter {
     /// The local name which an expression is.
-    pub fn plain_name(&self, at: ExpressionAt) -> Option<usize> {
-        let expression = self.tree.expression(at)?;
+    pub fn plain_name(&self, tree: &Tree<'_>, at: ExpressionAt) -> Option<usize> {
+        let expression = tree.expression(at)?;
         match expression.kind {
             ExpressionKind::Place(steps) if steps.is_empty() => {
-                let word = self.word(expression.span);
-                self.names.find(self.tree, word)
+                let word = tree.word(expression.span);
+                self.names.find(tree, word)
             }
             _ => None,
         }
     }
 
     /// Whether an expression is a place, and not a constant.
-    pub fn is_place(&self, at: ExpressionAt) -> bool {
+    pub fn is_place(&self, tree: &Tree<'_>, at: ExpressionAt) -> bool {
         matches!(
-            self.tree.expression(at),
+            tree.expression(at),
             Some(expression) if matches!(expression.kind, ExpressionKind::Place(_))
-        ) && self.fold(at).is_err()
+        ) && self.fold(tree, at).is_err()
     }
 
     /// Works out the keys of a place, and then the place.
-    pub fn begin_place(&mut self, at: ExpressionAt, dropped: usize) {
+    pub fn begin_place(&mut self, tree: &Tree<'_>, at: ExpressionAt, dropped: usize) {
         self.push_task(Task::Resolve(at, dropped));
-        let Some(steps) = self.steps_of(at, dropped) else {
+        let Some(steps) = steps_of(tree, at, dropped) else {
             return;
         };
-        let tree = self.tree;
         let steps = tree.steps(steps);
         for at in (0..steps.len()).rev() {
-            if let Some(key) = self.key_of(&steps[at]) {
-                if self.known_number(key).is_none() {
+            if let Some(key) = key_of(tree, &steps[at]) {
+                if self.known_number(tree, key).is_none() {
                     self.push_task(Task::Evaluate(key, None));
                 }
             }
         }
     }
 
-    /// The expression of a step's key.
-    fn key_of(&self, step: &Step) -> Option<ExpressionAt> {
-        match step.kind {
-            StepKind::Index(key) => Some(key),
-            StepKind::Method(arguments) if self.is_word(step.span, "after") => {
-                self.tree.arguments(arguments).first().copied()
-            }
-            _ => None,
-        }
-    }
-
     /// Pushes a place whose keys are worked out.
-    pub fn resolve(&mut self, at: ExpressionAt, dropped: usize) {
-        let span = self.span_of(at);
-        let Some(steps) = self.steps_of(at, dropped) else {
-            let kind = self.no_place(at);
+    pub fn resolve(&mut self, tree: &Tree<'_>, at: ExpressionAt, dropped: usize) {
+        let span = self.span_of(tree, at);
+        let Some(steps) = steps_of(tree, at, dropped) else {
+            let kind = no_place(tree, at);
             return self.error(span, kind);
         };
-        let tree = self.tree;
         let steps = tree.steps(steps);
-        let first_value = self.first_key(steps);
+        let first_value = self.first_key(tree, steps);
         let mut resolving = Resolving {
             place: self.empty_place(span),
             next_value: first_value,
             name: span,
         };
-        let skipped = self.resolve_root(&mut resolving, steps);
-        self.resolve_steps(&mut resolving, steps, skipped);
+        let skipped = self.resolve_root(tree, &mut resolving, steps);
+        self.resolve_steps(tree, &mut resolving, steps, skipped);
         self.values.truncate(first_value);
         self.push_place(resolving.place)
     }
 
-    /// The error of an expression that isn't a place.
-    fn no_place(&self, at: ExpressionAt) -> ErrorKind {
-        let Some(expression) = self.tree.expression(at) else {
-            return ErrorKind::PLACE_WANTED;
-        };
-        match expression.kind {
-            ExpressionKind::Call(_) => ErrorKind::CALL_AS_PLACE,
-            _ => ErrorKind::PLACE_WANTED,
-        }
-    }
-
-    fn resolve_steps(&mut self, resolving: &mut Resolving, steps: &[Step], skipped: usize) {
+    fn resolve_steps(
+        &mut self,
+        tree: &Tree<'_>,
+        resolving: &mut Resolving,
+        steps: &[Step],
+        skipped: usize,
+    ) {
         for (number, step) in steps.iter().enumerate() {
             if number >= skipped {
                 let is_last = number.saturating_add(1) == steps.len();
-                self.resolve_step(resolving, step, is_last);
+                self.resolve_step(tree, resolving, step, is_last);
             }
         }
     }
 
     /// The position of the first key of these steps that was worked out.
-    fn first_key(&self, steps: &[Step]) -> usize {
+    fn first_key(&self, tree: &Tree<'_>, steps: &[Step]) -> usize {
         let mut count = 0usize;
         for step in steps {
-            if let Some(key) = self.key_of(step) {
-                if self.known_number(key).is_none() {
+            if let Some(key) = key_of(tree, step) {
+                if self.known_number(tree, key).is_none() {
                     count = count.saturating_add(1);
                 }
             }
@@ -159,21 +113,26 @@ impl Emitter<'_> {
     }
 
     /// Finds what a place begins with. Returns how many steps that takes.
-    fn resolve_root(&mut self, resolving: &mut Resolving, steps: &[Step]) -> usize {
+    fn resolve_root(
+        &mut self,
+        tree: &Tree<'_>,
+        resolving: &mut Resolving,
+        steps: &[Step],
+    ) -> usize {
         let span = resolving.name;
-        let word = self.word(span);
-        if let Some(at) = self.names.find(self.tree, word) {
+        let word = tree.word(span);
+        if let Some(at) = self.names.find(tree, word) {
             self.names.use_name(at);
             self.resolve_name(resolving, at, steps);
             return 0;
         }
-        if let Some(at) = self.program.object_named(self.tree, word) {
-            return self.resolve_object(resolving, at, steps);
+        if let Some(at) = self.program.object_named(tree, word) {
+            return self.resolve_object(tree, resolving, at, steps);
         }
-        if self.program.value_named(self.tree, word).is_some() {
+        if self.program.value_named(tree, word).is_some() {
             self.error(span, ErrorKind::CONSTANT_AS_PLACE);
         } else {
-            let about = About::near(self.near_name(word));
+            let about = About::near(self.near_name(tree, word));
             self.error_about(span, ErrorKind::NO_NAME, about);
         }
         0
@@ -253,7 +212,13 @@ impl Emitter<'_> {
         longer
     }
 
-    fn resolve_object(&mut self, resolving: &mut Resolving, at: usize, steps: &[Step]) -> usize {
+    fn resolve_object(
+        &mut self,
+        tree: &Tree<'_>,
+        resolving: &mut Resolving,
+        at: usize,
+        steps: &[Step],
+    ) -> usize {
         let Some(object) = self.program.object(at) else {
             self.skip();
             return 0;
@@ -266,7 +231,7 @@ impl Emitter<'_> {
                 0
             }
             ObjectKind::Array(_) | ObjectKind::Family => {
-                self.resolve_element(resolving, at, object, steps)
+                self.resolve_element(tree, resolving, at, object, steps)
             }
         }
     }
@@ -279,6 +244,7 @@ impl Emitter<'_> {
 
     fn resolve_element(
         &mut self,
+        tree: &Tree<'_>,
         resolving: &mut Resolving,
         at: usize,
         object: Object,
@@ -286,11 +252,11 @@ impl Emitter<'_> {
     ) -> usize {
         if let Some(step) = steps.first() {
             if let StepKind::Index(key) = step.kind {
-                let key = self.take_key(resolving, key);
+                let key = self.take_key(tree, resolving, key);
                 resolving.place.root = Root::Element(at, key);
                 return 1;
             }
-            if object.kind != ObjectKind::Family && self.begins_with_length(steps) {
+            if object.kind != ObjectKind::Family && begins_with_length(tree, steps) {
                 resolving.place.root = Root::Object(at);
                 resolving.place.value_type = TypeAt::INT;
                 resolving.place.is_length = true;
@@ -306,8 +272,8 @@ impl Emitter<'_> {
     }
 
     /// The key that an expression is, or that was worked out for it.
-    fn take_key(&mut self, resolving: &mut Resolving, key: ExpressionAt) -> Key {
-        if let Some(value) = self.known_number(key) {
+    fn take_key(&mut self, tree: &Tree<'_>, resolving: &mut Resolving, key: ExpressionAt) -> Key {
+        if let Some(value) = self.known_number(tree, key) {
             return Key::Literal(value);
         }
         let value = self.values.get(resolving.next_value).copied();
@@ -336,24 +302,36 @@ impl Emitter<'_> {
         }
     }
 
-    fn resolve_step(&mut self, resolving: &mut Resolving, step: &Step, is_last: bool) {
+    fn resolve_step(
+        &mut self,
+        tree: &Tree<'_>,
+        resolving: &mut Resolving,
+        step: &Step,
+        is_last: bool,
+    ) {
         self.enter_content(&mut resolving.place);
         match step.kind {
-            StepKind::Index(key) => self.resolve_index(resolving, step.span, key),
+            StepKind::Index(key) => self.resolve_index(tree, resolving, step.span, key),
             StepKind::Method(arguments) => {
-                self.resolve_method(resolving, step.span, arguments, is_last)
+                self.resolve_method(tree, resolving, step.span, arguments, is_last)
             }
-            StepKind::Field => self.resolve_field(resolving, step.span, is_last),
+            StepKind::Field => self.resolve_field(tree, resolving, step.span, is_last),
         }
     }
 
-    fn resolve_index(&mut self, resolving: &mut Resolving, span: Span, key: ExpressionAt) {
+    fn resolve_index(
+        &mut self,
+        tree: &Tree<'_>,
+        resolving: &mut Resolving,
+        span: Span,
+        key: ExpressionAt,
+    ) {
         let value_type = resolving.place.value_type;
         let shape = self.program.types.shape(value_type);
         let Some(item) = shape.item() else {
             return self.type_error(span, ErrorKind::NO_ITEMS, value_type);
         };
-        let key = self.take_key(resolving, key);
+        let key = self.take_key(tree, resolving, key);
         let kind = match shape {
             Shape::Text => WayKind::Byte(key),
             _ if shape.is_map() => WayKind::Key(key),
@@ -364,79 +342,91 @@ impl Emitter<'_> {
 
     fn resolve_method(
         &mut self,
+        tree: &Tree<'_>,
         resolving: &mut Resolving,
         span: Span,
         arguments: Range,
         is_last: bool,
     ) {
         let shape = self.program.types.shape(resolving.place.value_type);
-        if !shape.is_map() || !self.is_word(span, "after") {
+        if !shape.is_map() || !is_word(tree, span, "after") {
             return self.error(span, ErrorKind::METHOD_AS_VALUE);
         }
         if !is_last {
             return self.error(span, ErrorKind::KEY_HAS_NO_PARTS);
         }
-        let tree = self.tree;
         let [key] = tree.arguments(arguments) else {
             return self.error(span, ErrorKind::AFTER_ARGUMENTS);
         };
-        let key = self.take_key(resolving, *key);
+        let key = self.take_key(tree, resolving, *key);
         self.add_way(&mut resolving.place, WayKind::NextKey(key), TypeAt::INT)
     }
 
-    fn resolve_field(&mut self, resolving: &mut Resolving, span: Span, is_last: bool) {
+    fn resolve_field(
+        &mut self,
+        tree: &Tree<'_>,
+        resolving: &mut Resolving,
+        span: Span,
+        is_last: bool,
+    ) {
         let shape = self.program.types.shape(resolving.place.value_type);
-        if shape.is_map() && self.is_word(span, "first") {
+        if shape.is_map() && is_word(tree, span, "first") {
             if !is_last {
                 return self.error(span, ErrorKind::KEY_HAS_NO_PARTS);
             }
             return self.add_way(&mut resolving.place, WayKind::FirstKey, TypeAt::INT);
         }
-        if shape.item().is_some() && self.is_word(span, "len") {
+        if shape.item().is_some() && is_word(tree, span, "len") {
             if !is_last {
                 return self.error(span, ErrorKind::LENGTH_HAS_NO_PARTS);
             }
             resolving.place.is_length = true;
             return;
         }
-        self.resolve_member(resolving, span, shape)
+        self.resolve_member(tree, resolving, span, shape)
     }
 
-    fn resolve_member(&mut self, resolving: &mut Resolving, span: Span, shape: Shape) {
+    fn resolve_member(
+        &mut self,
+        tree: &Tree<'_>,
+        resolving: &mut Resolving,
+        span: Span,
+        shape: Shape,
+    ) {
         let value_type = resolving.place.value_type;
         let Shape::Struct(found) = shape else {
             return self.type_error(span, ErrorKind::NO_PART, value_type);
         };
-        let word = self.word(span);
-        match self.program.types.field(self.tree, found, word) {
+        let word = tree.word(span);
+        match self.program.types.field(tree, found, word) {
             Some((number, to)) => { self.add_way(&mut resolving.place, WayKind::Field(number), to) }
             None => {
                 let mut about = About::of_type(value_type);
-                about.near = self.near_field(found, word);
+                about.near = self.near_field(tree, found, word);
                 self.error_about(span, ErrorKind::NO_FIELD, about)
             }
         }
     }
 
     /// The type of a place, if it is one. `int` for a length.
-    pub fn type_of(&self, at: ExpressionAt) -> Option<TypeAt> {
-        let expression = self.tree.expression(at)?;
+    pub fn type_of(&self, tree: &Tree<'_>, at: ExpressionAt) -> Option<TypeAt> {
+        let expression = tree.expression(at)?;
         let ExpressionKind::Place(steps) = expression.kind else {
             return None;
         };
-        self.type_after(expression.span, self.tree.steps(steps))
+        self.type_after(tree, expression.span, tree.steps(steps))
     }
 
     /// The type of the place that a name and these steps refer to.
-    fn type_after(&self, name: Span, steps: &[Step]) -> Option<TypeAt> {
-        let word = self.word(name);
-        let (mut found, skipped) = match self.names.find(self.tree, word) {
+    fn type_after(&self, tree: &Tree<'_>, name: Span, steps: &[Step]) -> Option<TypeAt> {
+        let word = tree.word(name);
+        let (mut found, skipped) = match self.names.find(tree, word) {
             Some(name) => (self.type_of_name(name)?, 0),
-            None => self.type_of_object(word, steps)?,
+            None => self.type_of_object(tree, word, steps)?,
         };
         for (number, step) in steps.iter().enumerate() {
             if number >= skipped {
-                found = self.type_of_step(found, step)?;
+                found = self.type_of_step(tree, found, step)?;
             }
         }
         Some(found)
@@ -452,54 +442,51 @@ impl Emitter<'_> {
     }
 
     /// The type that a place begins with at an object, and how many of its steps that takes.
-    fn type_of_object(&self, word: &[u8], steps: &[Step]) -> Option<(TypeAt, usize)> {
-        let at = self.program.object_named(self.tree, word)?;
+    fn type_of_object(
+        &self,
+        tree: &Tree<'_>,
+        word: &[u8],
+        steps: &[Step],
+    ) -> Option<(TypeAt, usize)> {
+        let at = self.program.object_named(tree, word)?;
         let object = self.program.object(at)?;
         match object.kind {
             ObjectKind::Single | ObjectKind::Unique => Some((object.value_type, 0)),
-            ObjectKind::Array(_) if self.begins_with_length(steps) => {
+            ObjectKind::Array(_) if begins_with_length(tree, steps) => {
                 Some((TypeAt::INT, steps.len()))
             }
             ObjectKind::Array(_) | ObjectKind::Family => Some((object.value_type, 1)),
         }
     }
 
-    /// Whether the first of these steps has the word of a length.
-    fn begins_with_length(&self, steps: &[Step]) -> bool {
-        match steps.first() {
-            Some(step) => self.is_word(step.span, "len"),
-            None => false,
-        }
-    }
-
     /// Whether an expression is the number of the items of a container, a text or an array.
-    pub fn is_length(&self, at: ExpressionAt) -> bool {
-        let Some(expression) = self.tree.expression(at) else {
+    pub fn is_length(&self, tree: &Tree<'_>, at: ExpressionAt) -> bool {
+        let Some(expression) = tree.expression(at) else {
             return false;
         };
-        let Some(steps) = self.steps_of(at, 0) else {
+        let Some(steps) = steps_of(tree, at, 0) else {
             return false;
         };
-        let steps = self.tree.steps(steps);
+        let steps = tree.steps(steps);
         match steps.last() {
-            Some(step) if self.is_word(step.span, "len") => {}
+            Some(step) if is_word(tree, step.span, "len") => {}
             _ => return false,
         }
         let before = steps
             .get(..steps.len().saturating_sub(1))
             .unwrap_or_default();
-        match self.type_after(expression.span, before) {
+        match self.type_after(tree, expression.span, before) {
             Some(found) => !matches!(self.content_shape(found), Shape::Struct(_)),
             None => false,
         }
     }
 
-    fn type_of_step(&self, from: TypeAt, step: &Step) -> Option<TypeAt> {
+    fn type_of_step(&self, tree: &Tree<'_>, from: TypeAt, step: &Step) -> Option<TypeAt> {
         let shape = self.content_shape(from);
         match step.kind {
             StepKind::Index(_) => shape.item(),
             StepKind::Method(_) => Some(TypeAt::INT),
-            StepKind::Field => self.type_of_field(shape, step.span),
+            StepKind::Field => self.type_of_field(tree, shape, step.span),
         }
     }
 
@@ -515,23 +502,18 @@ impl Emitter<'_> {
         self.program.types.shape(from)
     }
 
-    fn type_of_field(&self, shape: Shape, name: Span) -> Option<TypeAt> {
+    fn type_of_field(&self, tree: &Tree<'_>, shape: Shape, name: Span) -> Option<TypeAt> {
         let Shape::Struct(found) = shape else {
             return Some(TypeAt::INT);
         };
-        let word = self.word(name);
-        let (_, to) = self.program.types.field(self.tree, found, word)?;
+        let word = tree.word(name);
+        let (_, to) = self.program.types.field(tree, found, word)?;
         Some(to)
     }
 
     /// Whether an expression is a place with a text.
-    pub fn is_text(&self, at: ExpressionAt) -> bool {
-        self.is_place(at) && self.type_of(at) == Some(TypeAt::TEXT)
-    }
-
-    /// Whether a place is a number, or the number of its items is meant.
-    pub fn is_number(&self, place: &Place) -> bool {
-        place.is_length || place.value_type == TypeAt::INT
+    pub fn is_text(&self, tree: &Tree<'_>, at: ExpressionAt) -> bool {
+        self.is_place(tree, at) && self.type_of(tree, at) == Some(TypeAt::TEXT)
     }
 
     /// How many steps of the way to a place can fail, without those to its name.
@@ -582,4 +564,67 @@ impl Emitter<'_> {
             return self.error(place.span, ErrorKind::FROZEN);
         }
     }
+}
+
+/// The steps of a place without the last `dropped` ones.
+pub fn steps_of(tree: &Tree<'_>, at: ExpressionAt, dropped: usize) -> Option<Range> {
+    match tree.expression(at)?.kind {
+        ExpressionKind::Place(steps) => Some(Range {
+            first: steps.first,
+            end: steps.end.saturating_sub(dropped),
+        }),
+        _ => None,
+    }
+}
+
+/// The last step of a place.
+pub fn last_step(tree: &Tree<'_>, at: ExpressionAt) -> Option<Step> {
+    let steps = steps_of(tree, at, 0)?;
+    tree.steps(steps).last().copied()
+}
+
+/// Whether a place ends in a call of a method.
+pub fn is_method(tree: &Tree<'_>, at: ExpressionAt) -> bool {
+    match last_step(tree, at) {
+        Some(step) => match step.kind {
+            StepKind::Method(_) => !is_word(tree, step.span, "after"),
+            _ => false,
+        },
+        None => false,
+    }
+}
+
+/// The expression of a step's key.
+fn key_of(tree: &Tree<'_>, step: &Step) -> Option<ExpressionAt> {
+    match step.kind {
+        StepKind::Index(key) => Some(key),
+        StepKind::Method(arguments) if is_word(tree, step.span, "after") => {
+            tree.arguments(arguments).first().copied()
+        }
+        _ => None,
+    }
+}
+
+/// The error of an expression that isn't a place.
+fn no_place(tree: &Tree<'_>, at: ExpressionAt) -> ErrorKind {
+    let Some(expression) = tree.expression(at) else {
+        return ErrorKind::PLACE_WANTED;
+    };
+    match expression.kind {
+        ExpressionKind::Call(_) => ErrorKind::CALL_AS_PLACE,
+        _ => ErrorKind::PLACE_WANTED,
+    }
+}
+
+/// Whether the first of these steps has the word of a length.
+fn begins_with_length(tree: &Tree<'_>, steps: &[Step]) -> bool {
+    match steps.first() {
+        Some(step) => is_word(tree, step.span, "len"),
+        None => false,
+    }
+}
+
+/// Whether a place is a number, or the number of its items is meant.
+pub fn is_number(place: &Place) -> bool {
+    place.is_length || place.value_type == TypeAt::INT
 }

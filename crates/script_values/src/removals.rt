@@ -1,6 +1,7 @@
 //! Statements that remove places: `delete`, `clear` and `shrink`.
 
 use crate::emitter::Emitter;
+use crate::places::{last_step, steps_of};
 use crate::task::Task;
 use crate::walks::Removed;
 use client_code::Operation;
@@ -8,17 +9,18 @@ use script_code::{
     Class, ErrorKind, Key, Known, NONE, Object, ObjectKind, Operand, Place, Register, Root, Shape,
     TypeAt,
 };
-use script_syntax::{Container, ExpressionAt, Span, Statement, StatementKind, Step, StepKind};
+use script_syntax::{
+    Container, ExpressionAt, Span, Statement, StatementKind, Step, StepKind, Tree,
+};
 
-impl Emitter<'_> {
-    pub fn begin_delete(&mut self, statement: Statement, at: ExpressionAt) {
-        let span = self.span_of(at);
-        let Some(steps) = self.steps_of(at, 0) else {
+impl Emitter {
+    pub fn begin_delete(&mut self, tree: &Tree<'_>, statement: Statement, at: ExpressionAt) {
+        let span = self.span_of(tree, at);
+        let Some(steps) = steps_of(tree, at, 0) else {
             return self.error(span, ErrorKind::DELETED_VALUE);
         };
-        let tree = self.tree;
         let steps = tree.steps(steps);
-        let found = self.deleted_object(span);
+        let found = self.deleted_object(tree, span);
         if let Some((object, ObjectKind::Array(_))) = found {
             match steps.len() {
                 0 => return self.delete_object(object, None, span),
@@ -33,38 +35,50 @@ impl Emitter<'_> {
         if found.is_some() && steps.len() <= most_steps {
             return self.then_place(at, Task::DoDelete(statement));
         }
-        self.begin_delete_item(statement, at, steps)
+        self.begin_delete_item(tree, statement, at, steps)
     }
 
     /// The object with a name, and its kind. A local name hides an object.
-    fn deleted_object(&self, span: Span) -> Option<(usize, ObjectKind)> {
-        let word = self.word(span);
-        if self.names.find(self.tree, word).is_some() {
+    fn deleted_object(&self, tree: &Tree<'_>, span: Span) -> Option<(usize, ObjectKind)> {
+        let word = tree.word(span);
+        if self.names.find(tree, word).is_some() {
             return None;
         }
-        let at = self.program.object_named(self.tree, word)?;
+        let at = self.program.object_named(tree, word)?;
         Some((at, self.kind_of(at)?))
     }
 
-    fn begin_delete_item(&mut self, statement: Statement, at: ExpressionAt, steps: &[Step]) {
+    fn begin_delete_item(
+        &mut self,
+        tree: &Tree<'_>,
+        statement: Statement,
+        at: ExpressionAt,
+        steps: &[Step],
+    ) {
         let Some(step) = steps.last() else {
-            return self.error_at(at, ErrorKind::DELETED_VALUE);
+            return self.error_at(tree, at, ErrorKind::DELETED_VALUE);
         };
         match step.kind {
-            StepKind::Index(key) => self.begin_delete_key(statement, at, key),
-            _ => self.error_at(at, ErrorKind::DELETED_VALUE),
+            StepKind::Index(key) => self.begin_delete_key(tree, statement, at, key),
+            _ => self.error_at(tree, at, ErrorKind::DELETED_VALUE),
         }
     }
 
-    fn begin_delete_key(&mut self, statement: Statement, at: ExpressionAt, key: ExpressionAt) {
+    fn begin_delete_key(
+        &mut self,
+        tree: &Tree<'_>,
+        statement: Statement,
+        at: ExpressionAt,
+        key: ExpressionAt,
+    ) {
         self.then(&[Task::Place(at, 1), Task::DoDeleteKey(statement)]);
-        if self.known_number(key).is_none() {
+        if self.known_number(tree, key).is_none() {
             return self.push_task(Task::Evaluate(key, None));
         }
     }
 
     /// Deletes a key of the last place.
-    pub fn delete_key(&mut self, statement: Statement) {
+    pub fn delete_key(&mut self, tree: &Tree<'_>, statement: Statement) {
         let StatementKind::Delete(at) = statement.kind else {
             return;
         };
@@ -74,11 +88,11 @@ impl Emitter<'_> {
                 span,
                 kind: StepKind::Index(key),
             },
-        ) = self.last_step(at)
+        ) = last_step(tree, at)
         else {
             return self.skip();
         };
-        let key = self.last_key(key);
+        let key = self.last_key(tree, key);
         self.enter_content(&mut place);
         if !self.program.types.shape(place.value_type).is_map() {
             return self.type_error(span, ErrorKind::DELETED_ITEM, place.value_type);
@@ -89,8 +103,8 @@ impl Emitter<'_> {
     }
 
     /// The key that an expression is, or that was worked out last.
-    fn last_key(&mut self, key: ExpressionAt) -> Key {
-        match self.known_number(key) {
+    fn last_key(&mut self, tree: &Tree<'_>, key: ExpressionAt) -> Key {
+        match self.known_number(tree, key) {
             Some(value) => Key::Literal(value),
             None => Key::Register(self.pop_value().register),
         }
@@ -172,30 +186,30 @@ impl Emitter<'_> {
         self.code.end_class(Class::Named(object.constant))
     }
 
-    pub fn clear(&mut self, statement: Statement, at: ExpressionAt) {
+    pub fn clear(&mut self, tree: &Tree<'_>, statement: Statement, at: ExpressionAt) {
         let place = self.pop_place();
         if place.is_length || matches!(place.root, Root::Number(_)) {
-            return self.error_at(at, ErrorKind::NUMBER_CLEARED);
+            return self.error_at(tree, at, ErrorKind::NUMBER_CLEARED);
         }
         self.check_changeable(&place);
         self.remove(&place, Removed::Below, statement.span);
         let walk = self.walk(&place, false);
         if self.code.known(walk.register) == Known::Number {
-            return self.error_at(at, ErrorKind::NUMBER_CLEARED);
+            return self.error_at(tree, at, ErrorKind::NUMBER_CLEARED);
         }
         self.code.act(Operation::Clear, walk.register, 0);
         self.code.end_others(walk.register);
         self.close_walk(&walk)
     }
 
-    pub fn shrink(&mut self, at: ExpressionAt) {
+    pub fn shrink(&mut self, tree: &Tree<'_>, at: ExpressionAt) {
         let place = self.pop_place();
         let is_buffer = matches!(
             self.program.types.shape(place.value_type),
             Shape::Text | Shape::Of(Container::Vec | Container::FlatMap, _)
         );
         if place.is_length || !is_buffer {
-            let span = self.span_of(at);
+            let span = self.span_of(tree, at);
             return self.type_error(span, ErrorKind::SHRINK_OF, place.value_type);
         }
         self.check_changeable(&place);

@@ -53,7 +53,7 @@ impl Walk {
     }
 }
 
-impl Emitter<'_> {
+impl Emitter {
     /// The nearest name on the way whose register still refers to its place.
     fn start_of(&self, place: &Place) -> Option<Start> {
         let mut via = place.via;
@@ -457,14 +457,6 @@ impl Emitter<'_> {
         }
     }
 
-    /// What is done in the statement's own else part.
-    pub fn own_handler(&self, statement: Statement) -> Handler {
-        match statement.otherwise {
-            Some(part) => Handler::of(part),
-            None => Handler::Nothing,
-        }
-    }
-
     /// Ends the names whose places may be gone when a place is removed.
     pub fn remove(&mut self, place: &Place, removed: Removed, span: Span) {
         for at in 0..self.names.len() {
@@ -557,5 +549,13 @@ pub fn constant_kind(kind: ObjectKind) -> ConstantKind {
     match kind {
         ObjectKind::Family => ConstantKind::Family,
         _ => ConstantKind::Name,
+    }
+}
+
+/// What is done in the statement's own else part.
+pub fn own_handler(statement: Statement) -> Handler {
+    match statement.otherwise {
+        Some(part) => Handler::of(part),
+        None => Handler::Nothing,
     }
 }
