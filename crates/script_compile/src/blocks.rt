@@ -2,7 +2,7 @@
 
 use crate::compiler::{Compiler, Construct, ConstructKind};
 use script_code::{ErrorKind, Register, append};
-use script_syntax::{Block, Range, Span, Statement, StatementKind, Tree};
+use script_syntax::{Block, Range, Span, Statement, StatementAt, StatementKind, Tree};
 use script_values::{Sequence, Task};
 
 /// No statements.
@@ -121,12 +121,12 @@ impl Compiler {
             rest.now = rest.later;
             rest.later = EMPTY;
         }
-        let Some(statement) = tree.statements(rest.now).first().copied() else {
+        let Some(statement) = rest.now.first_statement() else {
             self.rest = None;
             return;
         };
         rest.now.first = rest.now.first.saturating_add(1);
-        if matches!(statement.kind, StatementKind::Let { .. }) {
+        if is_let(tree, statement) {
             rest.has_names = true;
         }
         let (exits, deferred) = (self.exits(), self.deferred.len());
@@ -199,13 +199,16 @@ impl Compiler {
     }
 
     /// A statement that leaves: `break`, `continue`, `return` or `stop`.
-    pub fn leave(&mut self, statement: Statement) {
-        let target = match statement.kind {
-            StatementKind::Break | StatementKind::Continue => self.innermost_loop(statement.span),
-            StatementKind::Return(_) => self.innermost_function(statement.span),
+    pub fn leave(&mut self, tree: &Tree<'_>, statement: StatementAt) {
+        let Some(found) = tree.statement(statement) else {
+            return;
+        };
+        let target = match found.kind {
+            StatementKind::Break | StatementKind::Continue => self.innermost_loop(found.span),
+            StatementKind::Return(_) => self.innermost_function(found.span),
             _ => 0,
         };
-        let stays = matches!(statement.kind, StatementKind::Continue);
+        let stays = matches!(found.kind, StatementKind::Continue);
         for at in (target..self.constructs.len()).rev() {
             self.leave_construct(at, stays && at == target);
         }
@@ -262,22 +265,27 @@ impl Compiler {
     }
 
     /// `return`, with its value.
-    pub fn begin_return(&mut self, statement: Statement) {
-        let at = self.innermost_function(statement.span);
-        let StatementKind::Return(value) = statement.kind else {
+    pub fn begin_return(&mut self, tree: &Tree<'_>, statement: StatementAt) {
+        let Some(
+            Statement {
+                span,
+                kind: StatementKind::Return(value),
+                ..
+            },
+        ) = tree.statement(statement)
+        else {
             return;
         };
+        let at = self.innermost_function(span);
         match (value, self.result_of(at)) {
-            (None, None) => self.leave(statement),
+            (None, None) => self.leave(tree, statement),
             (Some(value), Some(result)) => self.emitter.then(&[
                 Task::Evaluate(value, Some(result)),
                 Task::MoveTo(result),
                 Task::DoReturn(statement),
             ]),
-            (None, Some(_)) => self
-                .emitter
-                .error(statement.span, ErrorKind::RETURN_WITHOUT),
-            (Some(_), None) => self.emitter.error(statement.span, ErrorKind::RETURN_WITH),
+            (None, Some(_)) => self.emitter.error(span, ErrorKind::RETURN_WITHOUT),
+            (Some(_), None) => self.emitter.error(span, ErrorKind::RETURN_WITH),
         }
     }
 
@@ -287,5 +295,13 @@ impl Compiler {
             ConstructKind::Function { result, .. } => result,
             _ => None,
         }
+    }
+}
+
+/// Whether the statement is a `let`.
+fn is_let(tree: &Tree<'_>, statement: StatementAt) -> bool {
+    match tree.statement(statement) {
+        Some(found) => matches!(found.kind, StatementKind::Let { .. }),
+        None => false,
     }
 }

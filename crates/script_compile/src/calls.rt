@@ -2,7 +2,7 @@
 
 use crate::compiler::{Compiler, Construct, ConstructKind};
 use script_code::{About, ErrorKind, Function};
-use script_syntax::{ExpressionAt, ExpressionKind, Range, Span, Statement, Tree};
+use script_syntax::{ExpressionAt, ExpressionKind, Range, Span, StatementAt, Tree};
 use script_values::Task;
 
 impl Compiler {
@@ -10,16 +10,19 @@ impl Compiler {
     pub fn begin_call_statement(
         &mut self,
         tree: &Tree<'_>,
-        statement: Statement,
+        statement: StatementAt,
         at: ExpressionAt,
     ) {
+        let Some(found) = tree.statement(statement) else {
+            return;
+        };
         let Some(expression) = tree.expression(at) else {
             return;
         };
         match expression.kind {
             ExpressionKind::Call(arguments) => {
-                if statement.otherwise.is_some() {
-                    return self.emitter.error(statement.span, ErrorKind::CALL_ELSE);
+                if found.otherwise.is_some() {
+                    return self.emitter.error(found.span, ErrorKind::CALL_ELSE);
                 }
                 self.begin_call(tree, at, expression.span, arguments, false)
             }

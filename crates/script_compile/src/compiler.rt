@@ -8,7 +8,7 @@ use script_code::{
     Code, Compiled, Error, ErrorClass, ErrorKind, Linked, Meaning, NOWHERE, Name, Problem, Program,
     Register, Trouble, WarningKind, append, link,
 };
-use script_syntax::{Span, Statement, StatementKind, Tree};
+use script_syntax::{Span, StatementAt, StatementKind, Tree};
 use script_values::{Emitter, EmitterMark, Handler, Loop, Sequence, Task};
 use std::alloc::Global;
 
@@ -73,14 +73,14 @@ pub struct Construct {
 #[derive(Clone, Copy)]
 pub struct Choice {
     mark: Mark,
-    statement: Statement,
+    statement: StatementAt,
 }
 
 /// A statement that is being compiled.
 #[derive(Clone, Copy)]
 struct StatementMark {
     mark: Mark,
-    statement: Statement,
+    statement: StatementAt,
 }
 
 /// A name which was seen, with whether it is used anywhere.
@@ -299,24 +299,27 @@ impl Compiler {
             return;
         };
         self.go_back(&mark);
-        if let Some(part) = statement.otherwise {
+        let Some(found) = tree.statement(statement) else {
+            return;
+        };
+        if let Some(part) = found.otherwise {
             let handler = Handler::Part(part);
             self.emitter.then(&[Task::Handle(handler, Register(0))]);
         }
         let names = self.emitter.names.len();
-        let Some(block) = statement.body else {
-            return match statement.kind {
+        let Some(block) = found.body else {
+            return match found.kind {
                 StatementKind::Let { name, .. } => self.emitter.bind(name, Meaning::Unknown),
                 _ => {}
             };
         };
         self.emitter.then(&[Task::Body(block, names, true)]);
-        self.bind_unknown(tree, statement)
+        self.bind_unknown(tree, found.kind)
     }
 
     /// Binds the names of a statement with an error.
-    fn bind_unknown(&mut self, tree: &Tree<'_>, statement: Statement) {
-        match statement.kind {
+    fn bind_unknown(&mut self, tree: &Tree<'_>, kind: StatementKind) {
+        match kind {
             StatementKind::Let { name, .. } | StatementKind::IfLet { name, .. } => {
                 self.emitter.bind(name, Meaning::Unknown)
             }
@@ -374,22 +377,25 @@ impl Compiler {
         Some(self.statements.get(at)?.mark)
     }
 
-    pub fn begin_statement(&mut self, statement: Statement) {
+    pub fn begin_statement(&mut self, tree: &Tree<'_>, statement: StatementAt) {
+        let Some(found) = tree.statement(statement) else {
+            return;
+        };
         let mark = self.mark();
         append(
             &mut self.statements,
             StatementMark { mark, statement },
             &mut self.emitter.code.trouble,
         );
-        self.emitter.code.span = statement.span;
-        if !self.emitter.is_flat && has_choice(statement.kind) {
+        self.emitter.code.span = found.span;
+        if !self.emitter.is_flat && has_choice(found.kind) {
             return self.begin_choice(statement);
         }
         self.emitter
             .then(&[Task::Perform(statement), Task::EndStatement])
     }
 
-    fn begin_choice(&mut self, statement: Statement) {
+    fn begin_choice(&mut self, statement: StatementAt) {
         let choice = Choice {
             mark: self.mark(),
             statement,
@@ -406,9 +412,9 @@ impl Compiler {
         let _ = self.choices.pop();
     }
 
-    pub fn end_statement(&mut self) {
+    pub fn end_statement(&mut self, tree: &Tree<'_>) {
         if let Some(ended) = self.statements.pop() {
-            self.emitter.note_made(&ended.statement);
+            self.emitter.note_made(tree, ended.statement);
         }
         self.emitter.code.usage.tidy();
     }

@@ -7,15 +7,15 @@ use script_values::{Loop, Task, Turn};
 
 impl Compiler {
     /// Begins a loop whose first test is done.
-    pub fn begin_loop(&mut self, found: Loop) {
+    pub fn begin_loop(&mut self, tree: &Tree<'_>, found: Loop) {
         self.emitter.code.usage.tidy();
         self.emitter.leave_flat();
         self.push_construct(ConstructKind::Loop(found));
-        self.start_loop()
+        self.start_loop(tree)
     }
 
     /// Begins the body of the innermost loop.
-    fn start_loop(&mut self) {
+    fn start_loop(&mut self, tree: &Tree<'_>) {
         let Some(construct) = self.constructs.last().copied() else {
             return self.emitter.skip();
         };
@@ -29,13 +29,16 @@ impl Compiler {
             self.emitter.code.number(running, 1);
         }
         self.emitter.then(&[Task::EndLoop]);
-        self.emitter.begin_turn(found)
+        self.emitter.begin_turn(tree, found)
     }
 
     /// Continues to the next turn, unless the loop was left.
     pub fn next_turn(&mut self, tree: &Tree<'_>, found: Loop) {
+        let Some(statement) = tree.statement(found.statement) else {
+            return;
+        };
         self.emitter.code.usage.tidy();
-        self.emitter.code.span = found.statement.span;
+        self.emitter.code.span = statement.span;
         if self.breaks() > 0 {
             self.emitter.code.open_if(found.go);
             self.emitter.then(&[Task::Else, Task::EndPart]);
@@ -72,15 +75,18 @@ impl Compiler {
     }
 
     /// Ends the body of the innermost loop. If it doesn't end as it begins, it is compiled again.
-    pub fn end_loop(&mut self) {
+    pub fn end_loop(&mut self, tree: &Tree<'_>) {
         let Some(construct) = self.constructs.last().copied() else {
             return;
         };
         let ConstructKind::Loop(found) = construct.kind else {
             return self.emitter.skip();
         };
+        let Some(statement) = tree.statement(found.statement) else {
+            return;
+        };
         if self.must_restart(&construct) {
-            return self.start_loop();
+            return self.start_loop(tree);
         }
         self.emitter.code.end_loop();
         let _ = self.constructs.pop();
@@ -88,8 +94,8 @@ impl Compiler {
             self.emitter.code.usage.release(running);
         }
         self.emitter.code.usage.tidy();
-        self.emitter.code.span = found.statement.span;
-        if let Some(part) = found.statement.otherwise {
+        self.emitter.code.span = statement.span;
+        if let Some(part) = statement.otherwise {
             self.emitter.code.open_if(found.go);
             self.emitter
                 .then(&[Task::Block(part.block), Task::Else, Task::EndPart]);

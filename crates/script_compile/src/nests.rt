@@ -4,13 +4,13 @@
 use crate::compiler::{Compiler, Mark};
 use client_code::Operation;
 use script_code::{COUNT, ErrorKind, Key, Meaning, NOWHERE, Name, Place, Register, Root, append};
-use script_syntax::{Span, Statement, Tree};
+use script_syntax::{Span, StatementAt, Tree};
 use script_values::{Sequence, Task};
 
 /// What a nest begins with.
 #[derive(Clone, Copy)]
 pub enum NestKind {
-    Statement(Statement),
+    Statement(StatementAt),
     /// Statements that were put off, by their position.
     Deferred(usize),
 }

@@ -2,7 +2,7 @@
 
 use crate::compiler::Compiler;
 use crate::nests::NestKind;
-use script_syntax::{Statement, StatementKind, Tree};
+use script_syntax::{StatementAt, StatementKind, Tree};
 use script_values::Task;
 
 impl Compiler {
@@ -26,10 +26,10 @@ impl Compiler {
         match task {
             Task::EndGuard(span) => self.end_guard(span),
             Task::EndScope(names) => self.end_scope(names),
-            Task::Statement(statement) => self.begin_statement(statement),
+            Task::Statement(statement) => self.begin_statement(tree, statement),
             Task::Perform(statement) => self.perform_statement(tree, statement),
             Task::EndStatement => {
-                self.end_statement();
+                self.end_statement(tree);
             }
             Task::EndChoice => {
                 self.end_choice();
@@ -59,21 +59,24 @@ impl Compiler {
             ),
             Task::Call(function, at, wants_value) => self.call(tree, function, at, wants_value),
             Task::EndCall => self.end_call(),
-            Task::BeginLoop(found) => self.begin_loop(found),
-            Task::EndLoop => self.end_loop(),
+            Task::BeginLoop(found) => self.begin_loop(tree, found),
+            Task::EndLoop => self.end_loop(tree),
             Task::NextTurn(found) => self.next_turn(tree, found),
             Task::EndMain => self.end_main(tree),
-            Task::DoReturn(statement) => self.leave(statement),
+            Task::DoReturn(statement) => self.leave(tree, statement),
             _ => {}
         }
     }
 
-    fn perform_statement(&mut self, tree: &Tree<'_>, statement: Statement) {
-        match statement.kind {
+    fn perform_statement(&mut self, tree: &Tree<'_>, statement: StatementAt) {
+        let Some(found) = tree.statement(statement) else {
+            return;
+        };
+        match found.kind {
             StatementKind::Break | StatementKind::Continue | StatementKind::Stop => {
-                self.leave(statement)
+                self.leave(tree, statement)
             }
-            StatementKind::Return(_) => self.begin_return(statement),
+            StatementKind::Return(_) => self.begin_return(tree, statement),
             StatementKind::Call(at) => self.begin_call_statement(tree, statement, at),
             _ => self.emitter.begin(tree, statement),
         }

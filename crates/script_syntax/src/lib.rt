@@ -20,6 +20,6 @@ pub use parser::{Failure, parse};
 pub use tree::{
     BaseType, BinaryOperator, Block, Container, Declaration, DeclarationKind, ElsePart, Expression,
     ExpressionAt, ExpressionKind, Field, Held, Item, Range, SetOperator, Source, Span, Statement,
-    StatementKind, Step, StepKind, Tree, Type, UnaryOperator, Value, ValueKind,
+    StatementAt, StatementKind, Step, StepKind, Tree, Type, UnaryOperator, Value, ValueKind,
 };
 pub use word::Word;

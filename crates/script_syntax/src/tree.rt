@@ -22,6 +22,10 @@ pub struct Range {
 #[derive(Clone, Copy, PartialEq, Eq)]
 pub struct ExpressionAt(pub(crate) usize);
 
+/// The position of a statement.
+#[derive(Clone, Copy, PartialEq, Eq)]
+pub struct StatementAt(pub(crate) usize);
+
 #[derive(Clone, Copy)]
 pub struct Expression {
     /// The operator, the literal, or the first name.
@@ -347,6 +351,14 @@ impl Range {
     pub fn is_empty(&self) -> bool {
         self.end <= self.first
     }
+
+    /// The position of the first statement in a range of statements.
+    pub fn first_statement(self) -> Option<StatementAt> {
+        if self.is_empty() {
+            return None;
+        }
+        Some(StatementAt(self.first))
+    }
 }
 
 impl Statement {
@@ -391,6 +403,10 @@ impl<'a> Tree<'a> {
 
     pub fn expression(&self, at: ExpressionAt) -> Option<Expression> {
         self.nodes.expressions.get(at.0).copied()
+    }
+
+    pub fn statement(&self, at: StatementAt) -> Option<Statement> {
+        self.nodes.statements.get(at.0).copied()
     }
 
     pub fn statements(&self, range: Range) -> &[Statement] {

@@ -10,7 +10,7 @@ use script_code::{
 };
 use script_syntax::{
     BinaryOperator, Container, ExpressionAt, Item, Range, SetOperator, Span, Statement,
-    StatementKind, StepKind, Tree, ValueKind,
+    StatementAt, StatementKind, StepKind, Tree, ValueKind,
 };
 
 /// A push or a pop of a container.
@@ -50,23 +50,26 @@ impl Method {
 }
 
 impl Emitter {
-    pub fn begin_set(&mut self, tree: &Tree<'_>, statement: Statement) {
-        let StatementKind::Set { place, items, .. } = statement.kind else {
+    pub fn begin_set(&mut self, tree: &Tree<'_>, statement: StatementAt) {
+        let Some(found) = tree.statement(statement) else {
+            return;
+        };
+        let StatementKind::Set { place, items, .. } = found.kind else {
             return;
         };
         if let Some(name) = self.plain_name(tree, place) {
             if self.is_variable(tree, place) {
-                return self.begin_assign(tree, statement, name, items);
+                return self.begin_assign(tree, &found, name, items);
             }
         }
         if self.is_text(tree, place) {
             return self.then_place(place, Task::DoText(statement));
         }
         if self.is_own(tree, place) {
-            return self.begin_put(tree, statement, place, items);
+            return self.begin_put(tree, statement, &found, place, items);
         }
         self.push_task(Task::DoSet(statement));
-        if let Ok(value) = only_value(tree, &statement, items) {
+        if let Ok(value) = only_value(tree, &found, items) {
             self.push_task(Task::Evaluate(value, None));
         }
         self.push_task(Task::Place(place, 0))
@@ -83,7 +86,7 @@ impl Emitter {
     }
 
     /// Sets a number with a name.
-    fn begin_assign(&mut self, tree: &Tree<'_>, statement: Statement, name: usize, items: Range) {
+    fn begin_assign(&mut self, tree: &Tree<'_>, statement: &Statement, name: usize, items: Range) {
         let StatementKind::Set {
             place,
             operator,
@@ -112,7 +115,7 @@ impl Emitter {
             let about = About::name(span);
             return self.error_about(operator_span, ErrorKind::IS_NUMBER, about);
         }
-        let value = match only_value(tree, &statement, items) {
+        let value = match only_value(tree, statement, items) {
             Ok(value) => value,
             Err(error) => return self.fail(error),
         };
@@ -173,27 +176,30 @@ impl Emitter {
     }
 
     /// Sets the number at the last place to the last number.
-    pub fn set_number(&mut self, tree: &Tree<'_>, statement: Statement) {
+    pub fn set_number(&mut self, tree: &Tree<'_>, statement: StatementAt) {
+        let Some(found) = tree.statement(statement) else {
+            return;
+        };
         let place = self.pop_place();
-        self.check_settable(&statement, &place);
+        self.check_settable(&found, &place);
         let StatementKind::Set {
             operator,
             items,
             ..
-        } = statement.kind
+        } = found.kind
         else {
             return;
         };
-        if let Err(error) = only_value(tree, &statement, items) {
+        if let Err(error) = only_value(tree, &found, items) {
             return self.fail(error);
         }
         if matches!(operator, SetOperator::Divide | SetOperator::Remainder) {
-            let span = operator_span(&statement);
+            let span = operator_span(&found);
             return self.error(span, ErrorKind::ONLY_NAMED_NUMBERS);
         }
         let value = self.pop_value();
         self.code.usage.hold(value.register);
-        let handler = self.place_handler(statement, &place);
+        let handler = self.place_handler(&found, &place);
         let code = self.code_register(&place, handler);
         let walk = self.walk(&place, true);
         self.store(operator, walk.register, value.register);
@@ -217,7 +223,7 @@ impl Emitter {
     }
 
     /// What is done if the walk to a place fails. Nothing if it can't.
-    fn place_handler(&mut self, statement: Statement, place: &Place) -> Handler {
+    fn place_handler(&mut self, statement: &Statement, place: &Place) -> Handler {
         if self.fallible(place) == 0 {
             return Handler::Nothing;
         }
@@ -248,25 +254,26 @@ impl Emitter {
     fn begin_put(
         &mut self,
         tree: &Tree<'_>,
-        statement: Statement,
+        statement: StatementAt,
+        found: &Statement,
         place: ExpressionAt,
         items: Range,
     ) {
-        let StatementKind::Set { operator, .. } = statement.kind else {
+        let StatementKind::Set { operator, .. } = found.kind else {
             return;
         };
         match tree.items(items) {
             [item] if operator == SetOperator::Set => {
                 self.begin_move(tree, statement, place, item)
             }
-            _ => self.error(operator_span(&statement), ErrorKind::ONLY_NUMBERS),
+            _ => self.error(operator_span(found), ErrorKind::ONLY_NUMBERS),
         }
     }
 
     fn begin_move(
         &mut self,
         tree: &Tree<'_>,
-        statement: Statement,
+        statement: StatementAt,
         place: ExpressionAt,
         item: &Item,
     ) {
@@ -346,16 +353,19 @@ impl Emitter {
     }
 
     /// Moves an owned object into the last place.
-    pub fn put_owned(&mut self, tree: &Tree<'_>, statement: Statement, owner: usize) {
+    pub fn put_owned(&mut self, tree: &Tree<'_>, statement: StatementAt, owner: usize) {
+        let Some(found) = tree.statement(statement) else {
+            return;
+        };
         let place = self.pop_place();
         let Shape::Of(Container::Own, content) = self.program.types.shape(place.value_type) else {
             return self.skip();
         };
-        let span = item_span(tree, &statement);
+        let span = item_span(tree, &found);
         let register = self.check_owner(span, owner, content, &place, ErrorKind::OWNS_ITSELF);
         self.check_changeable(&place);
-        self.remove(&place, Removed::Below, statement.span);
-        let handler = self.place_handler(statement, &place);
+        self.remove(&place, Removed::Below, found.span);
+        let handler = self.place_handler(&found, &place);
         let code = self.code_unless_removed(&place, handler, true);
         let walk = self.walk(&place, true);
         self.code.act(Operation::Put, walk.register, register.0);
@@ -364,16 +374,12 @@ impl Emitter {
         self.close_handling(&walk, handler, code)
     }
 
-    pub fn begin_freeze(&mut self, statement: Statement) {
-        let StatementKind::Freeze { place, .. } = statement.kind else {
+    /// Moves an owned object into the last place and freezes it.
+    pub fn freeze(&mut self, tree: &Tree<'_>, statement: StatementAt) {
+        let Some(found) = tree.statement(statement) else {
             return;
         };
-        self.then_place(place, Task::DoFreeze(statement))
-    }
-
-    /// Moves an owned object into the last place and freezes it.
-    pub fn freeze(&mut self, tree: &Tree<'_>, statement: Statement) {
-        let StatementKind::Freeze { name, .. } = statement.kind else {
+        let StatementKind::Freeze { name, .. } = found.kind else {
             return;
         };
         let place = self.pop_place();
@@ -386,8 +392,8 @@ impl Emitter {
         };
         let register = self.check_owner(name, owner, content, &place, ErrorKind::SHARES_ITSELF);
         self.check_changeable(&place);
-        let handler = self.handler(statement);
-        self.remove(&place, Removed::Below, statement.span);
+        let handler = self.handler(&found);
+        self.remove(&place, Removed::Below, found.span);
         let code = self.code.literal_held(0);
         let walk = self.walk(&place, true);
         self.emit_freeze(walk.register, register, code);
@@ -415,10 +421,12 @@ impl Emitter {
         self.code.usage.release(failed);
     }
 
-    pub fn begin_share(&mut self, statement: Statement) {
-        let StatementKind::Share { place, source } = statement.kind else {
-            return;
-        };
+    pub fn begin_share(
+        &mut self,
+        statement: StatementAt,
+        place: ExpressionAt,
+        source: ExpressionAt,
+    ) {
         self.then(&[
             Task::Place(place, 0),
             Task::Place(source, 0),
@@ -427,7 +435,10 @@ impl Emitter {
     }
 
     /// Makes the last place but one share what the last place shares.
-    pub fn share(&mut self, statement: Statement) {
+    pub fn share(&mut self, tree: &Tree<'_>, statement: StatementAt) {
+        let Some(found) = tree.statement(statement) else {
+            return;
+        };
         let source = self.pop_place();
         let place = self.pop_place();
         if !self.is_shared(&place) {
@@ -441,11 +452,11 @@ impl Emitter {
             return self.error_about(source.span, ErrorKind::MISMATCH, about);
         }
         self.check_changeable(&place);
-        self.remove(&place, Removed::Below, statement.span);
+        self.remove(&place, Removed::Below, found.span);
         let handler = if self.fallible(&source) == 0 {
-            self.place_handler(statement, &place)
+            self.place_handler(&found, &place)
         } else {
-            self.handler(statement)
+            self.handler(&found)
         };
         self.emit_share(&place, &source, handler)
     }
@@ -475,7 +486,7 @@ impl Emitter {
         &mut self,
         tree: &Tree<'_>,
         at: ExpressionAt,
-        statement: Statement,
+        statement: StatementAt,
         is_named: bool,
     ) {
         let Some((span, arguments)) = method_of(tree, at) else {
@@ -525,8 +536,11 @@ impl Emitter {
     }
 
     /// A method of the last place, whose item gets no name.
-    pub fn do_method(&mut self, tree: &Tree<'_>, statement: Statement, has_value: bool) {
-        let StatementKind::Call(at) = statement.kind else {
+    pub fn do_method(&mut self, tree: &Tree<'_>, statement: StatementAt, has_value: bool) {
+        let Some(found) = tree.statement(statement) else {
+            return;
+        };
+        let StatementKind::Call(at) = found.kind else {
             return;
         };
         let Some((span, method)) = method_at(tree, at) else {
@@ -537,10 +551,10 @@ impl Emitter {
         let item = self.method_item(span, method, &place, has_value);
         self.check_changeable(&place);
         if !matches!(method, Method::Push) {
-            self.remove(&place, Removed::Below, statement.span);
+            self.remove(&place, Removed::Below, found.span);
         }
         let value = self.hold_pushed(has_value);
-        let handler = self.method_handler(statement, method);
+        let handler = self.method_handler(&found, method);
         self.walk_method(method, &place, value, item, handler)
     }
 
@@ -560,7 +574,7 @@ impl Emitter {
     }
 
     /// What is done if a method fails. A pop from nothing isn't told.
-    fn method_handler(&mut self, statement: Statement, method: Method) -> Handler {
+    fn method_handler(&mut self, statement: &Statement, method: Method) -> Handler {
         if method.is_push() {
             return self.handler(statement);
         }
@@ -633,7 +647,7 @@ impl Emitter {
 }
 
 /// The task that does a method.
-fn method_task(statement: Statement, is_named: bool, is_push: bool, has_value: bool) -> Task {
+fn method_task(statement: StatementAt, is_named: bool, is_push: bool, has_value: bool) -> Task {
     if !is_named {
         return Task::DoMethod(statement, has_value);
     }

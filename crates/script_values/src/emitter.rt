@@ -7,7 +7,7 @@ use script_code::{
     About, Code, CodeMark, Error, ErrorKind, Folded, MOST_DEPTH, Meaning, Names, Place, Problem,
     Program, Register, TypeAt, Warning, WarningKind, Way, append,
 };
-use script_syntax::{ExpressionAt, Span, Statement, StatementKind, Step, StepKind, Tree, Type};
+use script_syntax::{ExpressionAt, Span, StatementAt, StatementKind, Step, StepKind, Tree, Type};
 use std::alloc::Global;
 
 /// How much is emitted. Going back to it needs no copy.
@@ -228,8 +228,11 @@ impl Emitter {
     }
 
     /// Notes what a statement that ends has made. Only what prints lets that stay known.
-    pub fn note_made(&mut self, statement: &Statement) {
-        match statement.kind {
+    pub fn note_made(&mut self, tree: &Tree<'_>, statement: StatementAt) {
+        let Some(found) = tree.statement(statement) else {
+            return;
+        };
+        match found.kind {
             StatementKind::Set { place, .. } => {
                 append(&mut self.made, place, &mut self.code.trouble)
             }

@@ -11,8 +11,8 @@ use script_code::{
     Shape, TypeAt, WayKind,
 };
 use script_syntax::{
-    Block, Container, ExpressionAt, Held, Range, Span, Statement, StatementKind, Tree, Type, Value,
-    ValueKind,
+    Block, Container, ExpressionAt, Held, Range, Span, Statement, StatementAt, StatementKind, Tree,
+    Type, Value, ValueKind,
 };
 
 /// The code of an item that isn't there.
@@ -54,14 +54,14 @@ struct Push {
 }
 
 impl Emitter {
-    pub fn begin_let(&mut self, tree: &Tree<'_>, statement: Statement) {
-        let Some((name, value)) = named_value(&statement) else {
+    pub fn begin_let(&mut self, tree: &Tree<'_>, statement: StatementAt) {
+        let Some((found, name, value)) = find_named(tree, statement) else {
             return self.skip();
         };
         if self.is_object_name(tree, name) {
             return self.error(name, ErrorKind::OBJECT_NAME);
         }
-        if statement.body.is_some() {
+        if found.body.is_some() {
             return self.begin_lookup(tree, statement);
         }
         let ValueKind::Expression(at) = value.kind else {
@@ -147,8 +147,8 @@ impl Emitter {
     }
 
     /// What is done if the lookup of a statement fails.
-    fn lookup_handler(&mut self, statement: Statement) -> Handler {
-        let Some((_, value)) = named_value(&statement) else {
+    fn lookup_handler(&mut self, statement: &Statement) -> Handler {
+        let Some((_, value)) = named_value(statement) else {
             self.skip();
             return Handler::Nothing;
         };
@@ -159,18 +159,18 @@ impl Emitter {
         self.handler(statement)
     }
 
-    pub fn begin_lookup(&mut self, tree: &Tree<'_>, statement: Statement) {
-        let Some((name, value)) = named_value(&statement) else {
+    pub fn begin_lookup(&mut self, tree: &Tree<'_>, statement: StatementAt) {
+        let Some((found, name, value)) = find_named(tree, statement) else {
             return self.skip();
         };
         match value.kind {
-            ValueKind::New(written) => self.make_new(tree, statement, name, written),
+            ValueKind::New(written) => self.make_new(tree, &found, name, written),
             ValueKind::Take(at) => self.then_place(at, Task::DoTake(statement)),
             ValueKind::Expression(at) => self.look_up(tree, statement, value.span, at),
         }
     }
 
-    fn look_up(&mut self, tree: &Tree<'_>, statement: Statement, span: Span, at: ExpressionAt) {
+    fn look_up(&mut self, tree: &Tree<'_>, statement: StatementAt, span: Span, at: ExpressionAt) {
         if is_method(tree, at) {
             return self.begin_method(tree, at, statement, true);
         }
@@ -180,7 +180,7 @@ impl Emitter {
         self.then_place(at, Task::DoLookup(statement))
     }
 
-    fn make_new(&mut self, tree: &Tree<'_>, statement: Statement, name: Span, written: Type) {
+    fn make_new(&mut self, tree: &Tree<'_>, statement: &Statement, name: Span, written: Type) {
         let value_type = match self.written_type(tree, written) {
             Ok(found) => found,
             Err(span) => {
@@ -205,7 +205,7 @@ impl Emitter {
     /// Binds an owned object, whose part was just opened, and does the rest.
     fn own(
         &mut self,
-        statement: Statement,
+        statement: &Statement,
         name: Span,
         register: Register,
         value_type: TypeAt,
@@ -221,7 +221,7 @@ impl Emitter {
         );
         self.push_task(Task::Release(register));
         self.then_else(handler, register);
-        self.push_task(body_task(&statement, names))
+        self.push_task(body_task(statement, names))
     }
 
     /// Ends the innermost part next. If it fails, the handler runs, with the code in a register.
@@ -229,8 +229,8 @@ impl Emitter {
         self.then(&[Task::Else, Task::Handle(handler, code), Task::EndPart])
     }
 
-    pub fn take_owned(&mut self, tree: &Tree<'_>, statement: Statement) {
-        let Some((name, _)) = named_value(&statement) else {
+    pub fn take_owned(&mut self, tree: &Tree<'_>, statement: StatementAt) {
+        let Some((found, name, _)) = find_named(tree, statement) else {
             return self.skip();
         };
         let place = self.pop_place();
@@ -239,11 +239,11 @@ impl Emitter {
             return self.type_error(place.span, ErrorKind::TAKE_OF, place.value_type);
         };
         self.check_changeable(&place);
-        let handler = self.lookup_handler(statement);
-        let code = self.body_code(tree, &statement, &place, handler);
+        let handler = self.lookup_handler(&found);
+        let code = self.body_code(tree, &found, &place, handler);
         let register = self.code.take_held();
         let walk = self.walk(&place, false);
-        self.remove(&place, Removed::Below, statement.span);
+        self.remove(&place, Removed::Below, found.span);
         self.code.open_change(
             Operation::Take,
             [register.0, walk.register.0, 0],
@@ -251,12 +251,12 @@ impl Emitter {
             Known::Owner(content),
         );
         self.push_task(Task::CloseWalk(walk, handler, code));
-        self.own(statement, name, register, content, handler)
+        self.own(&found, name, register, content, handler)
     }
 
     /// `if let` at the last place.
-    pub fn finish_lookup(&mut self, tree: &Tree<'_>, statement: Statement) {
-        let Some((name, _)) = named_value(&statement) else {
+    pub fn finish_lookup(&mut self, tree: &Tree<'_>, statement: StatementAt) {
+        let Some((found, name, _)) = find_named(tree, statement) else {
             return self.skip();
         };
         let mut place = self.pop_place();
@@ -266,35 +266,35 @@ impl Emitter {
         if is_known && !is_box {
             return self.error(place.span, ErrorKind::NEVER_ABSENT);
         }
-        let handler = self.lookup_handler(statement);
+        let handler = self.lookup_handler(&found);
         if is_box {
             self.enter_one(&mut place);
         }
         if is_number(&place) {
-            return self.look_up_number(statement, name, &place, handler);
+            return self.look_up_number(&found, name, &place, handler);
         }
-        self.look_up_place(tree, statement, name, place, handler)
+        self.look_up_place(tree, &found, name, place, handler)
     }
 
     fn look_up_place(
         &mut self,
         tree: &Tree<'_>,
-        statement: Statement,
+        statement: &Statement,
         name: Span,
         place: Place,
         handler: Handler,
     ) {
         let mut place = place;
         let names = self.names.len();
-        self.keep_keys(tree, &mut place, body_of(&statement));
+        self.keep_keys(tree, &mut place, body_of(statement));
         if self.is_flat {
             return self.look_up_flat(statement, name, &place, handler, names);
         }
-        let code = self.body_code(tree, &statement, &place, handler);
+        let code = self.body_code(tree, statement, &place, handler);
         let walk = self.walk(&place, false);
         self.bind_walk(name, &place, &walk);
         self.then(&[
-            body_task(&statement, names),
+            body_task(statement, names),
             Task::CloseWalk(walk, handler, code),
         ])
     }
@@ -327,7 +327,7 @@ impl Emitter {
 
     fn look_up_number(
         &mut self,
-        statement: Statement,
+        statement: &Statement,
         name: Span,
         place: &Place,
         handler: Handler,
@@ -344,7 +344,7 @@ impl Emitter {
         self.close_noting(&walk, code);
         self.push_task(Task::Release(register));
         let bind = Task::BindSet(name, register, digits);
-        self.branch_on(code, handler, bind, body_task(&statement, names))
+        self.branch_on(code, handler, bind, body_task(statement, names))
     }
 
     /// The most digits of the number at a place.
@@ -359,7 +359,7 @@ impl Emitter {
     /// Looks a number up whose walk opens one part, and does the body in that.
     fn look_up_open(
         &mut self,
-        statement: Statement,
+        statement: &Statement,
         name: Span,
         place: &Place,
         handler: Handler,
@@ -371,7 +371,7 @@ impl Emitter {
         self.read_number(register, walk.register, place);
         self.bind(name, Meaning::short_number(register, digits));
         self.then(&[
-            body_task(&statement, names),
+            body_task(statement, names),
             Task::CloseWalk(walk, handler, None),
         ])
     }
@@ -400,7 +400,7 @@ impl Emitter {
     /// Looks a place up, and again at each use, so that no part of it stays open.
     fn look_up_flat(
         &mut self,
-        statement: Statement,
+        statement: &Statement,
         name: Span,
         place: &Place,
         handler: Handler,
@@ -410,17 +410,20 @@ impl Emitter {
         let walk = self.walk(place, false);
         self.close_noting(&walk, code);
         let bind = Task::BindPlace(name, *place);
-        self.branch_on(code, handler, bind, body_task(&statement, names))
+        self.branch_on(code, handler, bind, body_task(statement, names))
     }
 
     // use
 
-    pub fn begin_use(&mut self, tree: &Tree<'_>, statement: Statement, held: Range) {
+    pub fn begin_use(&mut self, tree: &Tree<'_>, statement: StatementAt, held: Range) {
+        let Some(found) = tree.statement(statement) else {
+            return;
+        };
         let places = tree.held(held);
         let Some(first) = places.first() else {
             return;
         };
-        let handler = self.handler(statement);
+        let handler = self.handler(&found);
         if self.is_flat {
             let code = self.code.literal_held(0);
             let hold = Task::HoldFlat(statement, 0, code);
@@ -470,25 +473,28 @@ impl Emitter {
     pub fn hold(
         &mut self,
         tree: &Tree<'_>,
-        statement: Statement,
+        statement: StatementAt,
         number: usize,
         code: Option<Register>,
     ) {
-        let names = self.names.len();
-        let Some((name, place)) = self.begin_hold(tree, &statement, number) else {
+        let Some(found) = tree.statement(statement) else {
             return;
         };
-        let close = self.hold_place(statement, name, &place, code);
+        let names = self.names.len();
+        let Some((name, place)) = self.begin_hold(tree, &found, number) else {
+            return;
+        };
+        let close = self.hold_place(&found, name, &place, code);
         self.then(&[Task::EndScope(names), close]);
         let inner = self.names.len();
-        let [first, second] = after_held(tree, &statement, number, code, inner);
+        let [first, second] = after_held(tree, statement, &found, number, code, inner);
         self.then(&[first, second])
     }
 
     /// Finds or makes a place, and binds it. Returns the task that ends its parts.
     fn hold_place(
         &mut self,
-        statement: Statement,
+        statement: &Statement,
         name: Span,
         place: &Place,
         code: Option<Register>,
@@ -511,12 +517,15 @@ impl Emitter {
     pub fn hold_flat(
         &mut self,
         tree: &Tree<'_>,
-        statement: Statement,
+        statement: StatementAt,
         number: usize,
         code: Register,
     ) {
+        let Some(found) = tree.statement(statement) else {
+            return;
+        };
         let names = self.names.len();
-        let Some((name, place)) = self.begin_hold(tree, &statement, number) else {
+        let Some((name, place)) = self.begin_hold(tree, &found, number) else {
             return;
         };
         let walk = self.walk(&place, true);
@@ -524,23 +533,30 @@ impl Emitter {
         self.bind_place(name, place);
         self.use_last_name();
         self.push_task(Task::EndScope(names));
-        self.after_flat(tree, statement, number, code)
+        self.after_flat(tree, statement, &found, number, code)
     }
 
     /// Continues with the next place of a `use`, or its body.
-    fn after_flat(&mut self, tree: &Tree<'_>, statement: Statement, number: usize, code: Register) {
+    fn after_flat(
+        &mut self,
+        tree: &Tree<'_>,
+        statement: StatementAt,
+        found: &Statement,
+        number: usize,
+        code: Register,
+    ) {
         let next = number.saturating_add(1);
-        match held_place(tree, &statement, next) {
+        match held_place(tree, found, next) {
             Some(held) => {
                 let hold = Task::HoldFlat(statement, next, code);
                 self.then_place(held.place, hold)
             }
-            None => self.do_flat(statement, code),
+            None => self.do_flat(found, code),
         }
     }
 
     /// The body of a `use` whose places were found or made, unless a register has a code.
-    fn do_flat(&mut self, statement: Statement, code: Register) {
+    fn do_flat(&mut self, statement: &Statement, code: Register) {
         let handler = self.handler(statement);
         self.code.open_if(code);
         let inner = self.names.len();
@@ -548,7 +564,7 @@ impl Emitter {
             Task::Handle(handler, code),
             Task::Else,
             Task::Release(code),
-            Task::Body(body_of(&statement), inner, true),
+            Task::Body(body_of(statement), inner, true),
             Task::EndPart,
         ])
     }
@@ -556,8 +572,8 @@ impl Emitter {
     // push and pop with a name
 
     /// `if let` with a pushed item, at the last place. Its value was worked out, if it has one.
-    pub fn push_named(&mut self, tree: &Tree<'_>, statement: Statement, has_value: bool) {
-        let Some((name, value)) = named_value(&statement) else {
+    pub fn push_named(&mut self, tree: &Tree<'_>, statement: StatementAt, has_value: bool) {
+        let Some((found, name, value)) = find_named(tree, statement) else {
             return self.skip();
         };
         let Some((span, method)) = called(tree, value) else {
@@ -571,7 +587,7 @@ impl Emitter {
         }
         self.check_changeable(&place);
         if !method.is_back() {
-            self.remove(&place, Removed::Below, statement.span);
+            self.remove(&place, Removed::Below, found.span);
         }
         let push = Push {
             name,
@@ -579,23 +595,23 @@ impl Emitter {
             item,
             pushed: self.hold_pushed(has_value),
         };
-        let handler = self.lookup_handler(statement);
+        let handler = self.lookup_handler(&found);
         let names = self.names.len();
-        self.keep_keys(tree, &mut place, body_of(&statement));
-        self.bind_pushed(tree, statement, &push, &place, handler, names)
+        self.keep_keys(tree, &mut place, body_of(&found));
+        self.bind_pushed(tree, &found, &push, &place, handler, names)
     }
 
     /// Pushes an item, binds it, and does the body. The names begin at a position.
     fn bind_pushed(
         &mut self,
         tree: &Tree<'_>,
-        statement: Statement,
+        statement: &Statement,
         push: &Push,
         place: &Place,
         handler: Handler,
         names: usize,
     ) {
-        let code = self.body_code(tree, &statement, place, handler);
+        let code = self.body_code(tree, statement, place, handler);
         let index = self.code.literal_held(0);
         let walk = self.walk(place, true);
         let register = self.push_at(push, &walk, index);
@@ -609,7 +625,7 @@ impl Emitter {
             Task::CloseWalk(walk, handler, code),
         ]);
         self.then(&[
-            body_task(&statement, names),
+            body_task(statement, names),
             Task::Else,
             Task::Release(index),
             release,
@@ -686,8 +702,8 @@ impl Emitter {
     }
 
     /// `if let` with a popped item, at the last place.
-    pub fn pop_named(&mut self, tree: &Tree<'_>, statement: Statement) {
-        let Some((name, value)) = named_value(&statement) else {
+    pub fn pop_named(&mut self, tree: &Tree<'_>, statement: StatementAt) {
+        let Some((found, name, value)) = find_named(tree, statement) else {
             return self.skip();
         };
         let Some((span, method)) = called(tree, value) else {
@@ -700,14 +716,14 @@ impl Emitter {
             return self.type_error(value.span, ErrorKind::ITEM_GOES, item);
         }
         self.check_changeable(&place);
-        let handler = self.lookup_handler(statement);
-        self.bind_popped(statement, name, method.is_back(), &place, handler)
+        let handler = self.lookup_handler(&found);
+        self.bind_popped(&found, name, method.is_back(), &place, handler)
     }
 
     /// Removes an item, binds its number, and does the body.
     fn bind_popped(
         &mut self,
-        statement: Statement,
+        statement: &Statement,
         name: Span,
         is_back: bool,
         place: &Place,
@@ -722,7 +738,7 @@ impl Emitter {
         let names = self.names.len();
         self.push_task(Task::Release(register));
         let bind = Task::BindSet(name, register, MOST_DIGITS);
-        self.branch_on(code, handler, bind, body_task(&statement, names))
+        self.branch_on(code, handler, bind, body_task(statement, names))
     }
 
     /// Reads the first or the last item, and removes it.
@@ -785,6 +801,13 @@ fn named_value(statement: &Statement) -> Option<(Span, Value)> {
     }
 }
 
+/// The statement with its name and its value, if it is a `let` or an `if let`.
+fn find_named(tree: &Tree<'_>, statement: StatementAt) -> Option<(Statement, Span, Value)> {
+    let found = tree.statement(statement)?;
+    let (name, value) = named_value(&found)?;
+    Some((found, name, value))
+}
+
 /// The place of a `use` with this number, if it has one.
 fn held_place(tree: &Tree<'_>, statement: &Statement, number: usize) -> Option<Held> {
     let StatementKind::Use(held) = statement.kind else {
@@ -796,19 +819,20 @@ fn held_place(tree: &Tree<'_>, statement: &Statement, number: usize) -> Option<H
 /// The tasks after the place of a `use` with this number.
 fn after_held(
     tree: &Tree<'_>,
-    statement: &Statement,
+    statement: StatementAt,
+    found: &Statement,
     number: usize,
     code: Option<Register>,
     names: usize,
 ) -> [Task; 2] {
     let next = number.saturating_add(1);
-    match held_place(tree, statement, next) {
+    match held_place(tree, found, next) {
         Some(held) => [
             Task::Place(held.place, 0),
-            Task::Hold(*statement, next, code),
+            Task::Hold(statement, next, code),
         ],
         None => [
-            Task::Body(body_of(statement), names, true),
+            Task::Body(body_of(found), names, true),
             Task::EndScope(names),
         ],
     }

@@ -9,23 +9,30 @@ use script_code::{
     COUNT, ErrorKind, Key, Known, MOST_DIGITS, Meaning, Operand, Place, Register, Shape, TypeAt,
     WayKind,
 };
-use script_syntax::{ExpressionAt, Source, Span, Statement, StatementKind, Tree};
+use script_syntax::{
+    Block, ExpressionAt, Source, Span, Statement, StatementAt, StatementKind, Tree,
+};
 
 /// The most bytes of an input.
 const MOST_INPUT: i32 = 1 << 20;
 
 impl Emitter {
-    pub fn begin_for(&mut self, tree: &Tree<'_>, statement: Statement) {
-        self.forget_made();
-        let StatementKind::For {
-            key,
-            source,
-            max,
-            ..
-        } = statement.kind
+    pub fn begin_for(&mut self, tree: &Tree<'_>, statement: StatementAt) {
+        let Some(
+            Statement {
+                kind: StatementKind::For {
+                    key,
+                    source,
+                    max,
+                    ..
+                },
+                ..
+            },
+        ) = tree.statement(statement)
         else {
             return;
         };
+        self.forget_made();
         match source {
             Source::Input(_) => match key {
                 Some(key) => self.error(key, ErrorKind::INPUT_PAIR),
@@ -39,14 +46,14 @@ impl Emitter {
         }
     }
 
-    fn begin_items(&mut self, tree: &Tree<'_>, statement: Statement, at: ExpressionAt) {
+    fn begin_items(&mut self, tree: &Tree<'_>, statement: StatementAt, at: ExpressionAt) {
         if !self.is_place(tree, at) {
             return self.error_at(tree, at, ErrorKind::NO_SOURCE);
         }
         self.then_place(at, Task::DoItems(statement))
     }
 
-    fn begin_input(&mut self, tree: &Tree<'_>, statement: Statement, max: Option<ExpressionAt>) {
+    fn begin_input(&mut self, tree: &Tree<'_>, statement: StatementAt, max: Option<ExpressionAt>) {
         let turns = match max {
             Some(max) => self.turns(tree, max),
             None => MOST_INPUT,
@@ -58,7 +65,7 @@ impl Emitter {
     }
 
     /// Begins a loop next.
-    fn then_loop(&mut self, statement: Statement, go: Register, turns: i32, turn: Turn) {
+    fn then_loop(&mut self, statement: StatementAt, go: Register, turns: i32, turn: Turn) {
         let found = Loop {
             statement,
             go,
@@ -72,7 +79,7 @@ impl Emitter {
     fn begin_numbers(
         &mut self,
         tree: &Tree<'_>,
-        statement: Statement,
+        statement: StatementAt,
         first: ExpressionAt,
         end: ExpressionAt,
     ) {
@@ -84,12 +91,18 @@ impl Emitter {
     }
 
     /// A loop over numbers, after its first number and its end, if that isn't known.
-    pub fn loop_numbers(&mut self, tree: &Tree<'_>, statement: Statement) {
-        let StatementKind::For {
-            source: Source::Numbers(first, last),
-            max,
-            ..
-        } = statement.kind
+    pub fn loop_numbers(&mut self, tree: &Tree<'_>, statement: StatementAt) {
+        let Some(
+            Statement {
+                span,
+                kind: StatementKind::For {
+                    source: Source::Numbers(first, last),
+                    max,
+                    ..
+                },
+                ..
+            },
+        ) = tree.statement(statement)
         else {
             return;
         };
@@ -100,14 +113,14 @@ impl Emitter {
             None => End::Register(self.hold_value()),
         };
         let index = self.hold_value();
-        let turns = self.number_turns(tree, statement.span, max, low, high);
+        let turns = self.number_turns(tree, span, max, low, high);
         let turn = Turn::Numbers {
             index,
             end,
             digits: digits_between(low, high),
             is_positive: matches!(low, Some(low) if low >= 0),
         };
-        self.open_numbers(statement, turns, index, end, turn)
+        self.open_numbers(statement, span, turns, index, end, turn)
     }
 
     /// Keeps the register of the last number.
@@ -138,7 +151,8 @@ impl Emitter {
 
     fn open_numbers(
         &mut self,
-        statement: Statement,
+        statement: StatementAt,
+        span: Span,
         turns: i32,
         index: Register,
         end: End,
@@ -148,7 +162,7 @@ impl Emitter {
         self.test_index(go, index, end);
         let release = match end {
             End::Register(register) => Task::Release(register),
-            End::Literal(_) => Task::At(statement.span),
+            End::Literal(_) => Task::At(span),
         };
         self.then(&[Task::Release(go), Task::Release(index), release]);
         self.then_loop(statement, go, turns, turn)
@@ -177,12 +191,15 @@ impl Emitter {
     }
 
     /// A loop over the items of the last place.
-    pub fn loop_items(&mut self, tree: &Tree<'_>, statement: Statement) {
+    pub fn loop_items(&mut self, tree: &Tree<'_>, statement: StatementAt) {
+        let Some(found) = tree.statement(statement) else {
+            return;
+        };
         let StatementKind::For {
             source: Source::Place(at),
             max,
             ..
-        } = statement.kind
+        } = found.kind
         else {
             return;
         };
@@ -193,15 +210,22 @@ impl Emitter {
             let span = self.span_of(tree, at);
             return self.type_error(span, ErrorKind::NOT_CONTAINER, place.value_type);
         }
-        let turns = self.needed_turns(tree, statement.span, max);
-        self.open_items(tree, statement, place, turns)
+        let turns = self.needed_turns(tree, found.span, max);
+        self.open_items(tree, statement, body_of(&found), place, turns)
     }
 
-    fn open_items(&mut self, tree: &Tree<'_>, statement: Statement, place: Place, turns: i32) {
+    fn open_items(
+        &mut self,
+        tree: &Tree<'_>,
+        statement: StatementAt,
+        body: Block,
+        place: Place,
+        turns: i32,
+    ) {
         let mut place = place;
         let names = self.names.len();
         self.push_task(Task::EndScope(names));
-        self.keep_keys(tree, &mut place, body_of(&statement));
+        self.keep_keys(tree, &mut place, body);
         let key = self.code.literal_held(0);
         let go = self.code.literal_held(0);
         self.find_first(&place, key, go);
@@ -230,12 +254,19 @@ impl Emitter {
         self.code.open(operation, registers, Operand::Plain(0), key, Known::Number)
     }
 
-    pub fn begin_while(&mut self, tree: &Tree<'_>, statement: Statement) {
-        self.forget_made();
-        let StatementKind::While { condition, max } = statement.kind else {
+    pub fn begin_while(&mut self, tree: &Tree<'_>, statement: StatementAt) {
+        let Some(
+            Statement {
+                span,
+                kind: StatementKind::While { condition, max },
+                ..
+            },
+        ) = tree.statement(statement)
+        else {
             return;
         };
-        let turns = self.needed_turns(tree, statement.span, max);
+        self.forget_made();
+        let turns = self.needed_turns(tree, span, max);
         let go = self.code.take_held();
         self.push_task(Task::Release(go));
         self.then_loop(statement, go, turns, Turn::While(condition));
@@ -250,13 +281,16 @@ impl Emitter {
         }
     }
 
-    pub fn begin_turn(&mut self, found: Loop) {
-        let block = body_of(&found.statement);
-        let StatementKind::For { key, name, .. } = found.statement.kind else {
-            return self.then(&[Task::Block(block), Task::NextTurn(found)]);
+    pub fn begin_turn(&mut self, tree: &Tree<'_>, found: Loop) {
+        let Some(statement) = tree.statement(found.statement) else {
+            return;
+        };
+        let body = body_of(&statement);
+        let StatementKind::For { key, name, .. } = statement.kind else {
+            return self.then(&[Task::Block(body), Task::NextTurn(found)]);
         };
         match found.turn {
-            Turn::Input(byte) => self.begin_byte(found, name, byte),
+            Turn::Input(byte) => self.begin_byte(found.go, body, name, byte),
             Turn::Numbers {
                 index,
                 digits,
@@ -264,35 +298,30 @@ impl Emitter {
                 ..
             } => self.begin_number(
                 found,
+                body,
                 name,
                 Meaning::loop_number(index, digits, is_positive),
             ),
             Turn::Items {
                 place,
                 key: register,
-            } => { self.begin_item(found, key, name, &place, register) }
-            Turn::While(_) => self.then(&[Task::Block(block), Task::NextTurn(found)]),
+            } => { self.begin_item(found, body, key, name, &place, register) }
+            Turn::While(_) => self.then(&[Task::Block(body), Task::NextTurn(found)]),
         }
     }
 
     /// Binds the number of a turn, and does the body.
-    fn begin_number(&mut self, found: Loop, name: Span, meaning: Meaning) {
+    fn begin_number(&mut self, found: Loop, body: Block, name: Span, meaning: Meaning) {
         let names = self.names.len();
         self.bind(name, meaning);
-        self.then(&[
-            Task::Body(body_of(&found.statement), names, false),
-            Task::NextTurn(found),
-        ])
+        self.then(&[Task::Body(body, names, false), Task::NextTurn(found)])
     }
 
     /// Reads a byte of the input, binds it, and does the body.
-    fn begin_byte(&mut self, found: Loop, name: Span, byte: Register) {
+    fn begin_byte(&mut self, go: Register, body: Block, name: Span, byte: Register) {
         let names = self.names.len();
         self.open_input(name, byte);
-        self.then(&[
-            Task::Body(body_of(&found.statement), names, false),
-            Task::EndInput(found.go),
-        ])
+        self.then(&[Task::Body(body, names, false), Task::EndInput(go)])
     }
 
     /// Opens the part of a turn that has a byte of the input.
@@ -311,13 +340,14 @@ impl Emitter {
     fn begin_item(
         &mut self,
         found: Loop,
+        body: Block,
         key: Option<Span>,
         name: Span,
         place: &Place,
         register: Register,
     ) {
         let names = self.names.len();
-        let body = Task::Body(body_of(&found.statement), names, false);
+        let body = Task::Body(body, names, false);
         let is_map = self.program.types.shape(place.value_type).is_map();
         let (key, item) = names_of_turn(key, name, is_map);
         if let Some(key) = key {

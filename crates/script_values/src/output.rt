@@ -8,7 +8,7 @@ use script_code::{
     append_bytes,
 };
 use script_syntax::{
-    ExpressionAt, Item, Range, SetOperator, Span, Statement, StatementKind, Tree, ValueKind,
+    ExpressionAt, Item, Range, SetOperator, Span, StatementAt, StatementKind, Tree, ValueKind,
 };
 
 impl Emitter {
@@ -224,7 +224,10 @@ impl Emitter {
     }
 
     /// `text = items` and `text += items`, at the last place.
-    pub fn begin_text(&mut self, tree: &Tree<'_>, statement: Statement) {
+    pub fn begin_text(&mut self, tree: &Tree<'_>, statement: StatementAt) {
+        let Some(found) = tree.statement(statement) else {
+            return;
+        };
         let place = self.pop_place();
         let StatementKind::Set {
             operator,
@@ -232,7 +235,7 @@ impl Emitter {
             items,
             max,
             ..
-        } = statement.kind
+        } = found.kind
         else {
             return;
         };
@@ -241,7 +244,7 @@ impl Emitter {
         }
         let replaces = operator == SetOperator::Set;
         self.check_changeable(&place);
-        let handler = self.handler(statement);
+        let handler = self.handler(&found);
         self.open_text(tree, &place, handler, replaces, items, max)
     }
 

@@ -3,7 +3,7 @@
 use crate::emitter::Emitter;
 use crate::task::{Output, Task};
 use script_code::Meaning;
-use script_syntax::{Statement, StatementKind, Tree};
+use script_syntax::{StatementAt, StatementKind, Tree};
 
 impl Emitter {
     /// Does a task. Returns false for a task that the emitter can't do.
@@ -131,7 +131,7 @@ impl Emitter {
             Task::DoPut(statement, owner) => self.put_owned(tree, statement, owner),
             Task::DoMethod(statement, has_value) => self.do_method(tree, statement, has_value),
             Task::DoFreeze(statement) => self.freeze(tree, statement),
-            Task::DoShare(statement) => self.share(statement),
+            Task::DoShare(statement) => self.share(tree, statement),
             other => return self.perform_removal(tree, other),
         }
         true
@@ -139,7 +139,7 @@ impl Emitter {
 
     fn perform_removal(&mut self, tree: &Tree<'_>, task: Task) -> bool {
         match task {
-            Task::DoDelete(statement) => self.delete_whole(statement),
+            Task::DoDelete(statement) => self.delete_whole(tree, statement),
             Task::DoDeleteKey(statement) => self.delete_key(tree, statement),
             Task::DoClear(statement, at) => self.clear(tree, statement, at),
             Task::DoShrink(at) => self.shrink(tree, at),
@@ -153,7 +153,7 @@ impl Emitter {
             Task::EndInput(go) => self.end_input(go),
             Task::DoItems(statement) => self.loop_items(tree, statement),
             Task::DoNumbers(statement) => self.loop_numbers(tree, statement),
-            Task::DoIf(statement) => self.branch(statement),
+            Task::DoIf(statement) => self.branch(tree, statement),
             other => return self.perform_setting(other),
         }
         true
@@ -178,20 +178,23 @@ impl Emitter {
     }
 
     /// Begins a statement that neither leaves nor calls a function.
-    pub fn begin(&mut self, tree: &Tree<'_>, statement: Statement) {
-        match statement.kind {
+    pub fn begin(&mut self, tree: &Tree<'_>, statement: StatementAt) {
+        let Some(found) = tree.statement(statement) else {
+            return;
+        };
+        match found.kind {
             StatementKind::Let { .. } => self.begin_let(tree, statement),
             StatementKind::IfLet { .. } => self.begin_lookup(tree, statement),
             StatementKind::Use(held) => self.begin_use(tree, statement, held),
             StatementKind::For { .. } => self.begin_for(tree, statement),
             StatementKind::While { .. } => self.begin_while(tree, statement),
-            _ => self.begin_plain(tree, statement),
+            other => self.begin_plain(tree, statement, other),
         }
     }
 
     /// Statements that choose, print or change.
-    fn begin_plain(&mut self, tree: &Tree<'_>, statement: Statement) {
-        match statement.kind {
+    fn begin_plain(&mut self, tree: &Tree<'_>, statement: StatementAt, kind: StatementKind) {
+        match kind {
             StatementKind::If(condition) => {
                 self.then(&[Task::Evaluate(condition, None), Task::DoIf(statement)])
             }
@@ -201,14 +204,16 @@ impl Emitter {
                 ..
             } => self.push_task(Task::Items(items, Output::Printed { ends_line })),
             StatementKind::Set { .. } => self.begin_set(tree, statement),
-            StatementKind::Freeze { .. } => self.begin_freeze(statement),
-            StatementKind::Share { .. } => self.begin_share(statement),
-            _ => self.begin_removal(tree, statement),
+            StatementKind::Freeze { place, .. } => {
+                self.then_place(place, Task::DoFreeze(statement))
+            }
+            StatementKind::Share { place, source } => self.begin_share(statement, place, source),
+            other => self.begin_removal(tree, statement, other),
         }
     }
 
-    fn begin_removal(&mut self, tree: &Tree<'_>, statement: Statement) {
-        match statement.kind {
+    fn begin_removal(&mut self, tree: &Tree<'_>, statement: StatementAt, kind: StatementKind) {
+        match kind {
             StatementKind::Delete(at) => self.begin_delete(tree, statement, at),
             StatementKind::Clear(at) => self.then_place(at, Task::DoClear(statement, at)),
             StatementKind::Shrink(at) => self.then_place(at, Task::DoShrink(at)),
@@ -217,16 +222,19 @@ impl Emitter {
     }
 
     /// `if`, after its condition.
-    fn branch(&mut self, statement: Statement) {
+    fn branch(&mut self, tree: &Tree<'_>, statement: StatementAt) {
+        let Some(found) = tree.statement(statement) else {
+            return;
+        };
         let value = self.pop_value();
         self.code.open_if(value.register);
         self.code.usage.tidy();
-        let Some(body) = statement.body else {
+        let Some(body) = found.body else {
             return self.code.close();
         };
-        let otherwise = match statement.otherwise {
+        let otherwise = match found.otherwise {
             Some(part) => Task::Block(part.block),
-            None => Task::At(statement.span),
+            None => Task::At(found.span),
         };
         self.then(&[Task::Block(body), Task::Else, otherwise, Task::EndPart])
     }

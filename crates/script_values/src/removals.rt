@@ -10,11 +10,11 @@ use script_code::{
     TypeAt,
 };
 use script_syntax::{
-    Container, ExpressionAt, Span, Statement, StatementKind, Step, StepKind, Tree,
+    Container, ExpressionAt, Span, StatementAt, StatementKind, Step, StepKind, Tree,
 };
 
 impl Emitter {
-    pub fn begin_delete(&mut self, tree: &Tree<'_>, statement: Statement, at: ExpressionAt) {
+    pub fn begin_delete(&mut self, tree: &Tree<'_>, statement: StatementAt, at: ExpressionAt) {
         let span = self.span_of(tree, at);
         let Some(steps) = steps_of(tree, at, 0) else {
             return self.error(span, ErrorKind::DELETED_VALUE);
@@ -51,7 +51,7 @@ impl Emitter {
     fn begin_delete_item(
         &mut self,
         tree: &Tree<'_>,
-        statement: Statement,
+        statement: StatementAt,
         at: ExpressionAt,
         steps: &[Step],
     ) {
@@ -67,7 +67,7 @@ impl Emitter {
     fn begin_delete_key(
         &mut self,
         tree: &Tree<'_>,
-        statement: Statement,
+        statement: StatementAt,
         at: ExpressionAt,
         key: ExpressionAt,
     ) {
@@ -78,8 +78,11 @@ impl Emitter {
     }
 
     /// Deletes a key of the last place.
-    pub fn delete_key(&mut self, tree: &Tree<'_>, statement: Statement) {
-        let StatementKind::Delete(at) = statement.kind else {
+    pub fn delete_key(&mut self, tree: &Tree<'_>, statement: StatementAt) {
+        let Some(found) = tree.statement(statement) else {
+            return;
+        };
+        let StatementKind::Delete(at) = found.kind else {
             return;
         };
         let mut place = self.pop_place();
@@ -98,7 +101,7 @@ impl Emitter {
             return self.type_error(span, ErrorKind::DELETED_ITEM, place.value_type);
         }
         self.check_changeable(&place);
-        self.remove(&place, Removed::Key(key), statement.span);
+        self.remove(&place, Removed::Key(key), found.span);
         self.emit_delete_key(&place, key)
     }
 
@@ -129,7 +132,10 @@ impl Emitter {
     }
 
     /// Deletes the object that the last place is.
-    pub fn delete_whole(&mut self, statement: Statement) {
+    pub fn delete_whole(&mut self, tree: &Tree<'_>, statement: StatementAt) {
+        let Some(found) = tree.statement(statement) else {
+            return;
+        };
         let place = self.pop_place();
         match place.root {
             Root::Object(object) if place.len() == 0 && !place.is_length => {
@@ -138,7 +144,7 @@ impl Emitter {
             Root::Element(object, key) if place.len() == 0 => {
                 self.delete_object(object, Some(key), place.span)
             }
-            _ => self.error(statement.span, ErrorKind::DELETED_VALUE),
+            _ => self.error(found.span, ErrorKind::DELETED_VALUE),
         }
     }
 
@@ -186,13 +192,16 @@ impl Emitter {
         self.code.end_class(Class::Named(object.constant))
     }
 
-    pub fn clear(&mut self, tree: &Tree<'_>, statement: Statement, at: ExpressionAt) {
+    pub fn clear(&mut self, tree: &Tree<'_>, statement: StatementAt, at: ExpressionAt) {
+        let Some(found) = tree.statement(statement) else {
+            return;
+        };
         let place = self.pop_place();
         if place.is_length || matches!(place.root, Root::Number(_)) {
             return self.error_at(tree, at, ErrorKind::NUMBER_CLEARED);
         }
         self.check_changeable(&place);
-        self.remove(&place, Removed::Below, statement.span);
+        self.remove(&place, Removed::Below, found.span);
         let walk = self.walk(&place, false);
         if self.code.known(walk.register) == Known::Number {
             return self.error_at(tree, at, ErrorKind::NUMBER_CLEARED);

@@ -3,7 +3,7 @@
 use client_code::DEPTH;
 use script_code::{Place, Register};
 use script_syntax::{
-    BinaryOperator, Block, ElsePart, ExpressionAt, Range, Span, Statement, UnaryOperator,
+    BinaryOperator, Block, ElsePart, ExpressionAt, Range, Span, StatementAt, UnaryOperator,
 };
 
 /// A number that is worked out.
@@ -105,7 +105,7 @@ pub enum End {
 /// A loop that is being compiled.
 #[derive(Clone, Copy)]
 pub struct Loop {
-    pub statement: Statement,
+    pub statement: StatementAt,
     /// Whether another turn follows.
     pub go: Register,
     pub turns: i32,
@@ -145,8 +145,8 @@ pub enum Task {
     AfterStatement(Sequence, usize, usize),
     EndGuard(Span),
     EndScope(usize),
-    Statement(Statement),
-    Perform(Statement),
+    Statement(StatementAt),
+    Perform(StatementAt),
     EndStatement,
     EndChoice,
     EndNest,
@@ -201,24 +201,24 @@ pub enum Task {
     NextTurn(Loop),
     EndMain,
     // statements after their values
-    DoIf(Statement),
+    DoIf(StatementAt),
     DoLet(Span, ExpressionAt),
     BindNumber(Span, usize),
     BindSet(Span, Register, usize),
     BindPlace(Span, Place),
-    DoLookup(Statement),
-    DoTake(Statement),
-    DoPush(Statement, bool),
-    DoPop(Statement),
+    DoLookup(StatementAt),
+    DoTake(StatementAt),
+    DoPush(StatementAt, bool),
+    DoPop(StatementAt),
     /// Keeps the place of a `use` with this number.
-    Hold(Statement, usize, Option<Register>),
-    HoldFlat(Statement, usize, Register),
-    DoItems(Statement),
-    DoNumbers(Statement),
+    Hold(StatementAt, usize, Option<Register>),
+    HoldFlat(StatementAt, usize, Register),
+    DoItems(StatementAt),
+    DoNumbers(StatementAt),
     BeginLoop(Loop),
-    DoSet(Statement),
-    DoPut(Statement, usize),
-    DoText(Statement),
+    DoSet(StatementAt),
+    DoPut(StatementAt, usize),
+    DoText(StatementAt),
     TextCopy(TextTarget, ExpressionAt),
     TextEnd(Walk, TextTarget),
     Items(Range, Output),
@@ -226,14 +226,14 @@ pub enum Task {
     Padded(usize, Output),
     WriteText(ExpressionAt),
     WriteLine,
-    DoMethod(Statement, bool),
-    DoDelete(Statement),
-    DoDeleteKey(Statement),
-    DoClear(Statement, ExpressionAt),
+    DoMethod(StatementAt, bool),
+    DoDelete(StatementAt),
+    DoDeleteKey(StatementAt),
+    DoClear(StatementAt, ExpressionAt),
     DoShrink(ExpressionAt),
-    DoFreeze(Statement),
-    DoShare(Statement),
-    DoReturn(Statement),
+    DoFreeze(StatementAt),
+    DoShare(StatementAt),
+    DoReturn(StatementAt),
 }
 
 /// How a task ends a part.

@@ -442,7 +442,7 @@ impl Emitter {
 
     /// What is done if a statement fails: its else part, or the program's `fail` part. If there is
     /// neither, that is told.
-    pub fn handler(&mut self, statement: Statement) -> Handler {
+    pub fn handler(&mut self, statement: &Statement) -> Handler {
         if let Some(part) = statement.otherwise {
             return Handler::of(part);
         }
@@ -553,7 +553,7 @@ pub fn constant_kind(kind: ObjectKind) -> ConstantKind {
 }
 
 /// What is done in the statement's own else part.
-pub fn own_handler(statement: Statement) -> Handler {
+pub fn own_handler(statement: &Statement) -> Handler {
     match statement.otherwise {
         Some(part) => Handler::of(part),
         None => Handler::Nothing,
