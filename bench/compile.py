@@ -45,8 +45,8 @@ LUA_BLOCK = """do
 end
 """
 
-# how many blocks the programs have
-BLOCKS = (0, 10, 40, 80)
+# how many blocks the programs have; 24 of them reach the limit of 4,096 instructions
+BLOCKS = (0, 5, 10, 20)
 
 
 def program(front, block, blocks):
