@@ -13,6 +13,7 @@ mod numbers;
 mod output;
 mod perform;
 mod places;
+mod pushes;
 mod removals;
 mod task;
 mod walks;

@@ -2,6 +2,7 @@
 --     Words                      the words of the bits, and how many have room; missing words are 0
 --     has words unit             the unit's bit is set; a word has the bits of 64 units
 --     KeepsBit old new place i   a bit of a word is the same, unless it is the one at a place
+--     KeepsBits old new unit     the bits of all units are the same, except that of one unit
 --     spelled live allocated other
 --                                the mark that three bits spell
 --     marks_from mark unit n     the marks of n units, from a unit on
@@ -23,6 +24,9 @@ has words unit = bit_at (get_or words (unit / 64) 0) (unit % 64) == 1
 
 abbrev pub KeepsBit : (old new place i : ℕ) → Type 0
 KeepsBit old new place i = i ≢ place → bit_at new i ≡ bit_at old i
+
+abbrev pub KeepsBits : (old new : List ℕ) → ℕ → Type 0
+KeepsBits old new unit = (u : ℕ) → u ≢ unit → has new u ≡ has old u
 
 abbrev pub spelled : Bool → Bool → Bool → Mark
 spelled true allocated other = Live

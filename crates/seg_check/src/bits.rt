@@ -1,6 +1,6 @@
-ghost use Rattle.std.specs.Prelude.{◌≡◌, ◌≢◌, ℕ, ◌*◌, ◌/◌, ◌+◌, ◌<◌, ◌≤◌, true, false, [], length, set, get_or, IfOk};
+ghost use Rattle.std.specs.Prelude.{◌≡◌, ℕ, ◌*◌, ◌/◌, ◌+◌, ◌<◌, ◌≤◌, true, false, [], length, set, get_or, IfOk};
 ghost use Rattle.std.specs.Int.{bit_at};
-ghost use Rattle.seg_check.specs.Bits.{has, KeepsBit};
+ghost use Rattle.seg_check.specs.Bits.{has, KeepsBit, KeepsBits};
 
 use std::alloc::{AllocError, Allocator};
 use std::marker::Model;
@@ -52,7 +52,7 @@ impl<A: Allocator> Bits<A> {
     pub(crate) fn put(&mut self, unit: usize, to: bool)
         ensures room { self.old.room ≤ self.new.room }
         ensures own { unit < 64 * self.old.room → has self.new.words unit ≡ to }
-        ensures others { (u : ℕ) → u ≢ unit → has self.new.words u ≡ has self.old.words u }
+        ensures others { KeepsBits self.old.words self.new.words unit }
     {
         if to {
             self.set(unit);
@@ -65,7 +65,7 @@ impl<A: Allocator> Bits<A> {
     fn set(&mut self, unit: usize)
         ensures room { self.old.room ≤ self.new.room }
         ensures own { unit < 64 * self.old.room → has self.new.words unit ≡ true }
-        ensures others { (u : ℕ) → u ≢ unit → has self.new.words u ≡ has self.old.words u }
+        ensures others { KeepsBits self.old.words self.new.words unit }
     {
         self.reach(unit / WORD);
         let word = self.word(unit / WORD);
@@ -77,7 +77,7 @@ impl<A: Allocator> Bits<A> {
     pub(crate) fn clear(&mut self, unit: usize)
         ensures room { self.new.room ≡ self.old.room }
         ensures own { has self.new.words unit ≡ false }
-        ensures others { (u : ℕ) → u ≢ unit → has self.new.words u ≡ has self.old.words u }
+        ensures others { KeepsBits self.old.words self.new.words unit }
     {
         let word = self.word(unit / WORD);
         self.put_word(unit / WORD, without_bit(word, (unit % WORD) as u32));
