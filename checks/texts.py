@@ -57,7 +57,7 @@ def rules():
     found = {}
     for name, text in re.findall(rf"Fault::(\w+)(?:\(_\))? =>\s*(?:\{{\s*)?{LITERAL}", source):
         found[name] = literal(text)
-    for name, text in re.findall(rf"Fault::(\w+)(?:\(number\))? => write!\(\s*report,\s*{LITERAL}", source):
+    for name, text in re.findall(rf"Fault::(\w+)(?:\(number\))? => write!\(\s*explanation,\s*{LITERAL}", source):
         found[name] = literal(text).replace("move {number}, counted from 0,", "a move")
     for constant, value in limits().items():
         found = {name: text.replace(f"{{{constant}}}", value) for name, text in found.items()}

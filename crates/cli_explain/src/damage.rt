@@ -4,11 +4,11 @@ use crate::broken_block::{block_flaw, free_list_flaw};
 use crate::broken_pointer::{owners_flaw, pointer_flaw, unowned_flaw};
 use crate::broken_value::{free_tree_flaw, index_flaw, value_flaw};
 use crate::bytes::word;
+use crate::explanation::Explanation;
 use crate::field::entry_flaw;
 use crate::flaw::{Flaw, Right};
 use crate::image::Image;
 use crate::mistaken::no_image;
-use crate::report::Report;
 use crate::sources::{type_bytes, types_of};
 use client_code::{ENTRY, TypeTable};
 use seg_index::{Fault, MAX_LEN, MIN_LEN, header, is_size};
@@ -18,29 +18,29 @@ use seg_value::Layouts;
 const VERSION: usize = 8;
 
 /// Explains a fault in an image's length or header.
-pub(crate) fn add_bad_header(report: &mut Report, image: Option<&[u8]>) {
+pub(crate) fn add_bad_header(explanation: &mut Explanation, image: Option<&[u8]>) {
     let Some(image) = image else {
         return;
     };
     if !image.starts_with(b"SEGIMAGE") {
-        report.add(no_image(image));
+        explanation.add(no_image(image));
     } else if !u32::try_from(image.len()).is_ok_and(|len| is_size(len)) {
         let len = image.len();
         write!(
-            report,
+            explanation,
             "the image has {len} bytes, but should have {MIN_LEN} to {MAX_LEN}, a multiple of 16\n"
         );
     } else {
-        add_bad_word(report, image);
+        add_bad_word(explanation, image);
     }
 }
 
-fn add_bad_word(report: &mut Report, image: &[u8]) {
+fn add_bad_word(explanation: &mut Explanation, image: &[u8]) {
     let units = image.len() / 16;
     let size = word(image, header::SIZE);
     if size as usize != units && matches!(word(image, VERSION), 1 | 2) {
         write!(
-            report,
+            explanation,
             "the length at byte 12 is {size} units of 16 bytes, but the file has {units}\n"
         );
         return;
@@ -49,7 +49,7 @@ fn add_bad_word(report: &mut Report, image: &[u8]) {
         Some(flaw) => flaw,
         None => zero_flaw(image),
     };
-    write!(report, "{flaw}\n");
+    write!(explanation, "{flaw}\n");
 }
 
 /// The first byte of the header that should be 0 and isn't.
@@ -86,7 +86,7 @@ fn wrong_number(image: &[u8]) -> Option<Flaw<'static>> {
 }
 
 /// Explains a fault in an entry of an image's type table.
-pub(crate) fn add_bad_type(report: &mut Report, number: u32, image: Option<&[u8]>) {
+pub(crate) fn add_bad_type(explanation: &mut Explanation, number: u32, image: Option<&[u8]>) {
     let Some(image) = image else {
         return;
     };
@@ -94,24 +94,29 @@ pub(crate) fn add_bad_type(report: &mut Report, number: u32, image: Option<&[u8]
     let place = header::TYPES.saturating_add(index.saturating_mul(ENTRY));
     let flaw = entry_flaw(type_bytes(image), index, word(image, VERSION) == 2);
     write!(
-        report,
+        explanation,
         "the entry of type {number} begins at byte {place}\n{flaw}\n"
     );
 }
 
 /// Describes the place of a byte in an image, and the rule that is broken there. Returns false if the image is too long to be read.
-pub(crate) fn add_place(report: &mut Report, fault: Fault, at: u32, bytes: &[u8]) -> bool {
+pub(crate) fn add_place(
+    explanation: &mut Explanation,
+    fault: Fault,
+    at: u32,
+    bytes: &[u8],
+) -> bool {
     let layouts = Layouts::of(types_of(bytes).unwrap_or(TypeTable::new()));
     let Some(image) = Image::new(bytes, &layouts) else {
         return false;
     };
     let location = image.location(at);
-    write!(report, "byte {at} is {location}\n");
+    write!(explanation, "byte {at} is {location}\n");
     if matches!(fault, Fault::BadFree(_) | Fault::BadPointer(_)) {
-        add_target(report, image, at);
+        add_target(explanation, image, at);
     }
     let flaw = place_flaw(image, fault, at);
-    write!(report, "{flaw}\n");
+    write!(explanation, "{flaw}\n");
     true
 }
 
@@ -130,13 +135,13 @@ fn place_flaw(image: Image<'_>, fault: Fault, at: u32) -> Flaw<'_> {
     }
 }
 
-fn add_target(report: &mut Report, image: Image, at: u32) {
+fn add_target(explanation: &mut Explanation, image: Image, at: u32) {
     match image.view.target(at as usize) {
-        None => report.add("the pointer there is null\n"),
+        None => explanation.add("the pointer there is null\n"),
         Some(to) => {
             let location = image.location(to);
             write!(
-                report,
+                explanation,
                 "the pointer there points to byte {to}, {location}\n"
             );
         }

@@ -1,7 +1,7 @@
 use crate::damage::{add_bad_header, add_bad_type, add_place};
+use crate::explanation::Explanation;
 use crate::field::add_bad_code;
 use crate::rejection::{Rejected, add_bound, add_rejection};
-use crate::report::Report;
 use crate::sources::Sources;
 use crate::text::add_bad_line;
 use crate::types::TypeWords;
@@ -17,21 +17,24 @@ pub fn explain(
     client: Option<usize>,
     sources: &Sources,
 ) -> Result<Vec<u8>, AllocError> {
-    let mut report = Report::new(alloc);
+    let mut explanation = Explanation::new(alloc);
     if let Some(number) = client {
-        write!(report, "the fault is in client {number}, counted from 0\n");
+        write!(
+            explanation,
+            "the fault is in client {number}, counted from 0\n"
+        );
     }
-    if !add_image_place(&mut report, fault, sources.image) {
-        add_places(&mut report, alloc, fault, client, sources)?;
-        add_rule(&mut report, fault);
+    if !add_image_place(&mut explanation, fault, sources.image) {
+        add_places(&mut explanation, alloc, fault, client, sources)?;
+        add_rule(&mut explanation, fault);
     }
-    Ok(report.into_text()?.into_bytes())
+    Ok(explanation.into_text()?.into_bytes())
 }
 
 /// Adds the place of a fault in an image, and the rule that is broken there. Returns false if there is none, or no image.
-fn add_image_place(report: &mut Report, fault: Fault, image: Option<&[u8]>) -> bool {
+fn add_image_place(explanation: &mut Explanation, fault: Fault, image: Option<&[u8]>) -> bool {
     match (place_of(fault), image) {
-        (Some(at), Some(image)) => add_place(report, fault, at, image),
+        (Some(at), Some(image)) => add_place(explanation, fault, at, image),
         (Some(_) | None, _) => false,
     }
 }
@@ -52,7 +55,7 @@ fn place_of(fault: Fault) -> Option<u32> {
 
 /// Adds the place of another fault.
 fn add_places(
-    report: &mut Report,
+    explanation: &mut Explanation,
     alloc: Global,
     fault: Fault,
     client: Option<usize>,
@@ -71,11 +74,11 @@ fn add_places(
         | Fault::BadValue(_)
         | Fault::BadFree(_)
         | Fault::BadPointer(_) => {}
-        Fault::BadHeader => add_bad_header(report, sources.image),
-        Fault::BadType(number) => add_bad_type(report, number, sources.image),
-        Fault::TypeMismatch(number) => add_mismatch(report, number, client, sources),
-        Fault::BadCode(at) => add_bad_code(report, sources.file(client), at),
-        Fault::BadLine(number) => add_bad_line(report, sources.text, number),
+        Fault::BadHeader => add_bad_header(explanation, sources.image),
+        Fault::BadType(number) => add_bad_type(explanation, number, sources.image),
+        Fault::TypeMismatch(number) => add_mismatch(explanation, number, client, sources),
+        Fault::BadCode(at) => add_bad_code(explanation, sources.file(client), at),
+        Fault::BadLine(number) => add_bad_line(explanation, sources.text, number),
         Fault::Rejected {
             instruction,
             reason,
@@ -85,32 +88,37 @@ fn add_places(
                 reason,
             };
             return add_rejection(
-                report,
+                explanation,
                 alloc,
                 sources.client(client),
                 sources.text,
                 rejected,
             );
         }
-        Fault::TooLong => return add_bound(report, alloc, sources.client(client)),
+        Fault::TooLong => return add_bound(explanation, alloc, sources.client(client)),
     }
     Ok(())
 }
 
 /// Describes a type entry of the client, and the image's type with that number.
-fn add_mismatch(report: &mut Report, number: u32, client: Option<usize>, sources: &Sources) {
+fn add_mismatch(
+    explanation: &mut Explanation,
+    number: u32,
+    client: Option<usize>,
+    sources: &Sources,
+) {
     if let Some(client) = sources.client(client) {
-        add_kind(report, number, "in the client", &client.types());
+        add_kind(explanation, number, "in the client", &client.types());
     }
     if let Some(types) = sources.types_before(client) {
-        add_kind(report, number, "in the image", &types);
+        add_kind(explanation, number, "in the image", &types);
     }
 }
 
-fn add_kind(report: &mut Report, number: u32, place: &str, types: &TypeTable) {
+fn add_kind(explanation: &mut Explanation, number: u32, place: &str, types: &TypeTable) {
     if let Some(kind) = kind_of(number, types) {
         let kind = TypeWords(kind);
-        write!(report, "type {number} is {kind} {place}\n");
+        write!(explanation, "type {number} is {kind} {place}\n");
     }
 }
 
@@ -119,23 +127,23 @@ fn kind_of(number: u32, types: &TypeTable) -> Option<Type> {
 }
 
 /// Adds the rule that is broken, for a fault that has one rule.
-fn add_rule(report: &mut Report, fault: Fault) {
+fn add_rule(explanation: &mut Explanation, fault: Fault) {
     match fault {
         Fault::Misplaced => write!(
-            report,
+            explanation,
             "the base should be a multiple of 16, and the segment should end within the room, \
 at {MAX_LEN} bytes at most\n"
         ),
         Fault::BadSize => write!(
-            report,
+            explanation,
             "a segment has {MIN_LEN} to {MAX_LEN} bytes, a multiple of 16\n"
         ),
         Fault::BadMove(number) => write!(
-            report,
+            explanation,
             "move {number}, counted from 0, should come at step 1 or later, and later than the move before; \
 its base should be a multiple of 16 from which the segment ends within its room\n"
         ),
-        told => report.add(rule(told)),
+        told => explanation.add(rule(told)),
     }
 }
 

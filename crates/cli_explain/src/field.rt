@@ -1,11 +1,11 @@
 //! Explanations of faults in a client file.
 
 use crate::bytes::word;
+use crate::explanation::Explanation;
 use crate::flaw::{Flaw, Right, is_name};
 use crate::mistaken::no_client;
 use crate::opened::Spot;
 use crate::outline::{Draft, MOST_CONSTANTS, Outline};
-use crate::report::Report;
 use crate::rule;
 use client_code::{ConstantKind, ENTRY, Instruction, MAX_TYPES, MOST_INSTRUCTIONS, Operation};
 use std::fmt;
@@ -53,7 +53,7 @@ struct File<'a> {
 }
 
 /// Explains which field of a client file begins at a byte, and what is wrong with it.
-pub(crate) fn add_bad_code(report: &mut Report, bytes: Option<&[u8]>, at: u32) {
+pub(crate) fn add_bad_code(explanation: &mut Explanation, bytes: Option<&[u8]>, at: u32) {
     let Some(bytes) = bytes else {
         return;
     };
@@ -61,7 +61,7 @@ pub(crate) fn add_bad_code(report: &mut Report, bytes: Option<&[u8]>, at: u32) {
     let field = file.field(at as usize);
     let flaw = file.flaw(field, at as usize);
     write!(
-        report,
+        explanation,
         "byte {at} of the client file begins {field}\n{flaw}\n"
     );
 }

@@ -1,10 +1,10 @@
 //! Explains why the verifier refuses an instruction.
 
+use crate::explanation::Explanation;
 use crate::names::Names;
 use crate::quoted::Quoted;
 use crate::registers::{Demand, used};
 use crate::replay::{Change, How, OpenPart, Replay};
-use crate::report::Report;
 use crate::text::{instruction_lines, line};
 use client_code::{Client, Gives, Instruction, REGISTERS, Role};
 use client_text::print;
@@ -95,7 +95,7 @@ pub(crate) struct Rejected {
 
 /// Explains why an instruction is refused. `source` is the client's text, if the user wrote one.
 pub(crate) fn add_rejection(
-    report: &mut Report,
+    explanation: &mut Explanation,
     alloc: Global,
     client: Option<Client>,
     source: Option<&[u8]>,
@@ -105,18 +105,25 @@ pub(crate) fn add_rejection(
         return Ok(());
     };
     match source {
-        Some(source) => add_refusal(report, alloc, client, source, "", rejected),
+        Some(source) => add_refusal(explanation, alloc, client, source, "", rejected),
         None => {
             let printed = printed(alloc, &client)?;
             let whose = " of the text that `segtool print` writes";
-            add_refusal(report, alloc, client, printed.as_slice(), whose, rejected)
+            add_refusal(
+                explanation,
+                alloc,
+                client,
+                printed.as_slice(),
+                whose,
+                rejected,
+            )
         }
     }
 }
 
 /// Explains why an instruction is refused, by the client's text. `whose` tells which text it is.
 fn add_refusal(
-    report: &mut Report,
+    explanation: &mut Explanation,
     alloc: Global,
     client: Client,
     text: &[u8],
@@ -130,30 +137,30 @@ fn add_refusal(
         text,
         lines: lines.as_slice(),
     };
-    add_head(report, listing, whose, number);
+    add_head(explanation, listing, whose, number);
     if let Some(instruction) = client.instruction(number) {
         let refusal = Refusal {
             replay: &replay,
             names: Names::of(client),
             listing,
         };
-        refusal.add_registers(report, instruction, reason);
+        refusal.add_registers(explanation, instruction, reason);
     }
-    report.add(rule(reason));
+    explanation.add(rule(reason));
     Ok(())
 }
 
-fn add_head(report: &mut Report, listing: Listing, whose: &str, number: u32) {
+fn add_head(explanation: &mut Explanation, listing: Listing, whose: &str, number: u32) {
     let (line, shown) = (listing.line_of(number), listing.shown(number));
     write!(
-        report,
+        explanation,
         "instruction {number}, line {line}{whose}: {shown}\n"
     );
 }
 
 /// Adds the bound of a client's steps.
 pub(crate) fn add_bound(
-    report: &mut Report,
+    explanation: &mut Explanation,
     alloc: Global,
     client: Option<Client>,
 ) -> Result<(), AllocError> {
@@ -162,10 +169,10 @@ pub(crate) fn add_bound(
     };
     let replay = Replay::until(alloc, &client, client.instruction_count())?;
     match replay.steps() {
-        u64::MAX => report.add("the client could take more than 2^64 steps"),
-        steps => write!(report, "the client could take {steps} steps"),
+        u64::MAX => explanation.add("the client could take more than 2^64 steps"),
+        steps => write!(explanation, "the client could take {steps} steps"),
     }
-    write!(report, "; at most {MOST_STEPS} are allowed\n");
+    write!(explanation, "; at most {MOST_STEPS} are allowed\n");
     Ok(())
 }
 
@@ -196,70 +203,75 @@ impl Refusal<'_> {
     }
 
     /// Describes the registers for which the instruction is refused.
-    fn add_registers(self, report: &mut Report, instruction: Instruction, reason: u8) {
+    fn add_registers(self, explanation: &mut Explanation, instruction: Instruction, reason: u8) {
         match instruction.operation.row().role {
-            Role::End => self.add_end(report),
+            Role::End => self.add_end(explanation),
             Role::Plain | Role::Opener | Role::Loop | Role::Else => {
-                self.add_operands(report, instruction, reason);
+                self.add_operands(explanation, instruction, reason);
             }
         }
     }
 
-    fn add_operands(self, report: &mut Report, instruction: Instruction, reason: u8) {
+    fn add_operands(self, explanation: &mut Explanation, instruction: Instruction, reason: u8) {
         let [b, c] = used(instruction);
         if let Some(register) = b {
-            self.add_known(report, register);
+            self.add_known(explanation, register);
         }
         if let Some(register) = c {
-            self.add_known(report, register);
+            self.add_known(explanation, register);
         }
         if reason == Reason::WrongOperand.number() {
-            self.add_demand(report, instruction);
+            self.add_demand(explanation, instruction);
         } else if reason == Reason::OwnerLost.number() {
-            self.add_lost(report, instruction);
+            self.add_lost(explanation, instruction);
         }
     }
 
     /// Describes what is known of a register. If nothing is known, describes what it contained before.
-    fn add_known(self, report: &mut Report, register: u8) {
+    fn add_known(self, explanation: &mut Explanation, register: u8) {
         let holds = self.packed(register);
         let known = self.names.present(holds);
-        write!(report, "r{register} {known}\n");
+        write!(explanation, "r{register} {known}\n");
         if holds == PackedRegister::undefined() {
             if let Some(change) = self.replay.change(register) {
-                self.add_ended(report, register, change);
+                self.add_ended(explanation, register, change);
             }
         }
     }
 
-    fn add_ended(self, report: &mut Report, register: u8, change: Change) {
+    fn add_ended(self, explanation: &mut Explanation, register: u8, change: Change) {
         let (past, ended) = (self.names.past(change.held), self.listing.ended(change));
-        write!(report, "r{register} {past}, until {ended}");
+        write!(explanation, "r{register} {past}, until {ended}");
         match change.how {
-            How::Changed => self.add_again(report, change.held),
-            How::AfterSuccess(otherwise) => self.add_otherwise(report, register, otherwise),
-            How::AfterElse => report.add("; the success part leaves nothing in it"),
-            How::AfterBody => report.add("; after a loop a register contains what it did before"),
+            How::Changed => self.add_again(explanation, change.held),
+            How::AfterSuccess(otherwise) => self.add_otherwise(explanation, register, otherwise),
+            How::AfterElse => explanation.add("; the success part leaves nothing in it"),
+            How::AfterBody => explanation.add(
+                "; after a loop a register contains what it did before",
+            ),
         }
-        report.add(advice(change));
+        explanation.add(advice(change));
     }
 
     /// Adds what the else part left in a register, if it left something.
-    fn add_otherwise(self, report: &mut Report, register: u8, otherwise: PackedRegister) {
+    fn add_otherwise(self, explanation: &mut Explanation, register: u8, otherwise: PackedRegister) {
         if otherwise != PackedRegister::undefined() {
             let past = self.names.past(otherwise);
-            write!(report, "; at the end of the else part r{register} {past}");
+            write!(
+                explanation,
+                "; at the end of the else part r{register} {past}"
+            );
         }
     }
 
-    fn add_demand(self, report: &mut Report, instruction: Instruction) {
+    fn add_demand(self, explanation: &mut Explanation, instruction: Instruction) {
         let demand = Demand::unmet(self.names, self.replay.registers(), instruction);
         let register = demand.register;
-        write!(report, "r{register} should {demand}\n");
+        write!(explanation, "r{register} should {demand}\n");
     }
 
     /// Describes the register that would be overwritten, and the object that it owns.
-    fn add_lost(self, report: &mut Report, instruction: Instruction) {
+    fn add_lost(self, explanation: &mut Explanation, instruction: Instruction) {
         let register = match instruction.operation.row().gives {
             Gives::Forgotten => return,
             Gives::Nothing
@@ -273,20 +285,23 @@ impl Refusal<'_> {
             | Gives::Part => instruction.a,
         };
         let owned = self.names.present(self.packed(register));
-        write!(report, "r{register} {owned}, and would be overwritten\n");
+        write!(
+            explanation,
+            "r{register} {owned}, and would be overwritten\n"
+        );
     }
 
     /// Describes the registers that are wrong at an `END`.
-    fn add_end(self, report: &mut Report) {
+    fn add_end(self, explanation: &mut Explanation) {
         match self.replay.innermost() {
             Some(OpenPart::Body(before)) => {
                 for register in 0..REGISTERS {
-                    self.add_kept(report, register, before.packed(register));
+                    self.add_kept(explanation, register, before.packed(register));
                 }
             }
             Some(OpenPart::Else(success)) => {
                 for register in 0..REGISTERS {
-                    self.add_joined(report, register, success.packed(register));
+                    self.add_joined(explanation, register, success.packed(register));
                 }
             }
             Some(OpenPart::Success) | None => {}
@@ -294,46 +309,46 @@ impl Refusal<'_> {
     }
 
     /// Describes a register that a loop's body may not leave like this.
-    fn add_kept(self, report: &mut Report, register: u8, before: PackedRegister) {
+    fn add_kept(self, explanation: &mut Explanation, register: u8, before: PackedRegister) {
         let after = self.packed(register);
         if before.keeps(after).is_ok() {
             return;
         }
         let (past, present) = (self.names.past(before), self.names.present(after));
         write!(
-            report,
+            explanation,
             "r{register} {past} before the loop, and {present} at the end of its body"
         );
         if let Some(change) = self.replay.change(register) {
             let ended = self.listing.ended(change);
-            write!(report, ", since {ended}");
+            write!(explanation, ", since {ended}");
         }
-        report.add("\n");
+        explanation.add("\n");
     }
 
     /// Describes a register that owns an object at the end of only one of two parts.
-    fn add_joined(self, report: &mut Report, register: u8, success: PackedRegister) {
+    fn add_joined(self, explanation: &mut Explanation, register: u8, success: PackedRegister) {
         let otherwise = self.packed(register);
         let (_, is_lost) = success.joined(otherwise);
         if is_lost {
             let (first, second) = (self.names.present(success), self.names.present(otherwise));
             write!(
-                report,
+                explanation,
                 "r{register} {first} at the end of the success part, and {second} at the end of the else part\n"
             );
         }
     }
 
     /// Explains how to get a reference again that has ended.
-    fn add_again(self, report: &mut Report, held: PackedRegister) {
+    fn add_again(self, explanation: &mut Explanation, held: PackedRegister) {
         let Some((class, _)) = held.referred() else {
             return;
         };
         match class.unpacked() {
-            Class::Name(_) => report.add("; get it again, by FIND or from its container"),
-            Class::Unique(_) => report.add("; get it again, by UFIND or from its container"),
+            Class::Name(_) => explanation.add("; get it again, by FIND or from its container"),
+            Class::Unique(_) => explanation.add("; get it again, by UFIND or from its container"),
             Class::Register(owner) if self.packed(owner).is_owner() => {
-                write!(report, "; get it again, by REF r{owner}");
+                write!(explanation, "; get it again, by REF r{owner}");
             }
             Class::Register(_) => {}
         }

@@ -1,6 +1,6 @@
 //! What a program's lines and loops cost: how many steps each takes in a run with the most steps.
 
-use crate::report::Report;
+use crate::explanation::Explanation;
 use client_code::{Client, Instruction, Role};
 use std::alloc::{AllocError, Global};
 use std::str;
@@ -228,7 +228,7 @@ pub fn explain_steps(
     bound: u64,
 ) -> Result<String, AllocError> {
     let costs = Costs::new(alloc, client)?;
-    let mut table = Report::new(alloc);
+    let mut table = Explanation::new(alloc);
     table.add("     steps  instr.  line\n");
     add_lines(&mut table, alloc, program, costs.steps.as_slice())?;
     add_loops(&mut table, program.lines, client, &costs, bound);
@@ -251,7 +251,7 @@ impl LineCost {
 
 /// Adds a row for each line of the program.
 fn add_lines(
-    table: &mut Report,
+    table: &mut Explanation,
     alloc: Global,
     program: ProgramLines,
     steps: &[u64],
@@ -279,7 +279,7 @@ fn add_up(costs: &mut [LineCost], lines: &[usize], steps: &[u64]) {
 }
 
 /// Adds the row of a line.
-fn add_line(table: &mut Report, line: usize, cost: LineCost, source: &str) {
+fn add_line(table: &mut Explanation, line: usize, cost: LineCost, source: &str) {
     let LineCost {
         steps,
         instructions,
@@ -297,7 +297,7 @@ fn add_line(table: &mut Report, line: usize, cost: LineCost, source: &str) {
 }
 
 /// Adds a row for each loop that takes a tenth of all steps or more.
-fn add_loops(table: &mut Report, lines: &[usize], client: &Client, costs: &Costs, bound: u64) {
+fn add_loops(table: &mut Explanation, lines: &[usize], client: &Client, costs: &Costs, bound: u64) {
     for at in 0..client.instruction_count() {
         let Some(instruction) = client.instruction(at) else {
             break;
@@ -310,7 +310,7 @@ fn add_loops(table: &mut Report, lines: &[usize], client: &Client, costs: &Costs
 }
 
 /// Adds a row for the loop of this instruction and this line, if it takes a tenth of all steps or more.
-fn add_loop(table: &mut Report, line: usize, costs: &Costs, at: usize, bound: u64) {
+fn add_loop(table: &mut Explanation, line: usize, costs: &Costs, at: usize, bound: u64) {
     let parts = costs.parts(at);
     let Parts { last, turns, .. } = parts;
     // each time the loop takes a step to begin, and one for each turn

@@ -1,12 +1,12 @@
 //! Explanations of faults in a client's text.
 
+use crate::explanation::Explanation;
 use crate::flaw::{Flaw, is_name};
 use crate::mistaken::no_text;
 use crate::opened::Spot;
 use crate::outline::{Draft, MOST_CONSTANTS, Outline, operand_words};
 use crate::pieces::Pieces;
 use crate::quoted::Quoted;
-use crate::report::Report;
 use crate::rule;
 use crate::slip::slip;
 use client_code::{
@@ -42,22 +42,22 @@ pub fn instruction_lines(alloc: Global, text: &[u8]) -> Result<Vec<usize>, Alloc
 }
 
 /// Quotes the line with this number, counted from 1, and explains what is wrong with it.
-pub(crate) fn add_bad_line(report: &mut Report, source: Option<&[u8]>, number: u32) {
+pub(crate) fn add_bad_line(explanation: &mut Explanation, source: Option<&[u8]>, number: u32) {
     let Some(source) = source else {
         return;
     };
     if let Some(other) = no_text(source) {
-        return report.add(other);
+        return explanation.add(other);
     }
     match meant_line(source, number) {
         Some(shown) => {
             let flaw = line_flaw(source, number, shown);
             let shown = Quoted(shown);
-            write!(report, "line {number}: {shown}\n{flaw}\n");
+            write!(explanation, "line {number}: {shown}\n{flaw}\n");
         }
         None => {
             let flaw = unclosed(source, number);
-            write!(report, "line {number}, after the last line: {flaw}\n");
+            write!(explanation, "line {number}, after the last line: {flaw}\n");
         }
     }
 }

@@ -2,7 +2,7 @@
 --     Words                      the words of the bits, and how many have room; missing words are 0
 --     has words unit             the unit's bit is set; a word has the bits of 64 units
 --     KeepsBit old new place i   a bit of a word is the same, unless it is the one at a place
---     KeepsBits old new unit     the bits of all units are the same, except that of one unit
+--     KeepsBits old new unit     the bits of all units but one are the same
 --     spelled live allocated other
 --                                the mark that three bits spell
 --     marks_from mark unit n     the marks of n units, from a unit on

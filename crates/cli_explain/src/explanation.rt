@@ -3,14 +3,14 @@ use std::fmt::{Display, Write};
 
 /// Text that grows, and remembers whether memory for it was refused.
 #[derive(Drop)]
-pub(crate) struct Report {
+pub(crate) struct Explanation {
     text: String,
     is_refused: bool,
 }
 
-impl Report {
-    pub(crate) fn new(alloc: Global) -> Report {
-        Report {
+impl Explanation {
+    pub(crate) fn new(alloc: Global) -> Explanation {
+        Explanation {
             text: String::new(alloc),
             is_refused: false,
         }
