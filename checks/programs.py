@@ -821,8 +821,9 @@ class Maker:
             head, code = self.code()
             one, other, left = self.branches(lambda: self.block(4, [name]), lambda: (self.short_block(code), False))
             return self.join(f"if let {text} = take {place.text}", one, head, other), left
+        leaving = self.leaving()
         self.add(name)
-        return [f"let {text} = take {place.text} else {{ {'; '.join(self.leaving())} }}"]
+        return [f"let {text} = take {place.text} else {{ {'; '.join(leaving)} }}"]
 
     def condition(self):
         test = self.number_text()

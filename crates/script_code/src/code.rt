@@ -36,7 +36,9 @@ pub struct OpenPart {
     /// What is known at the end of the success part.
     success: Registers,
     target: Option<Register>,
-    /// The position of `ELSE`.
+    /// The position after the opener.
+    first: usize,
+    /// The position of `ELSE`, or 0 if that isn't written yet.
     else_at: usize,
     /// How many names had ended at the opener.
     first_ended: usize,
@@ -47,8 +49,33 @@ pub struct OpenPart {
 pub struct EndedName {
     pub name: usize,
     pub span: Span,
+    /// The position of the next instruction.
+    at: usize,
     /// Whether it is in the part that is being written, or before.
     is_here: bool,
+}
+
+/// No position is in it.
+const NO_PART: (usize, usize) = (1, 0);
+
+/// The success parts whose else parts are being written.
+#[derive(Clone, Copy)]
+pub struct OtherParts {
+    /// The position after the opener, and the position of `ELSE`, which is 0 for other parts.
+    parts: [(usize, usize); DEPTH],
+}
+
+impl OtherParts {
+    /// Whether the instruction at a position, or a name that ends before it, is in one of them.
+    pub fn have(&self, at: usize) -> bool {
+        for index in 0..DEPTH {
+            let (first, else_at) = self.parts[index];
+            if first <= at && at <= else_at {
+                return true;
+            }
+        }
+        false
+    }
 }
 
 /// How far the code is written. Going back to it needs no copy.
@@ -345,6 +372,7 @@ impl Code {
             base: self.registers,
             success: self.registers,
             target,
+            first: self.instructions.len(),
             else_at: 0,
             first_ended: self.ended.len(),
         };
@@ -413,6 +441,17 @@ impl Code {
         self.open_part(None)
     }
 
+    /// The parts that don't run before what is written next.
+    pub fn other_parts(&self) -> OtherParts {
+        let mut parts = [NO_PART; DEPTH];
+        for index in 0..DEPTH {
+            if let Some(part) = self.parts.get(index) {
+                parts[index] = (part.first, part.else_at);
+            }
+        }
+        OtherParts { parts }
+    }
+
     /// Begins the else part of the innermost part.
     pub fn begin_else(&mut self) {
         if self.trouble.is_set() {
@@ -431,13 +470,26 @@ impl Code {
         if let Some(target) = target {
             self.set(target, Known::Number);
         }
-        self.show_ended(first, false);
+        self.show_ended(first, self.ended.len(), false);
     }
 
-    fn show_ended(&mut self, first: usize, is_here: bool) {
-        for at in first..self.ended.len() {
+    /// Whether the names from `first` to before `end` count as ended in what is written next.
+    pub fn show_ended(&mut self, first: usize, end: usize, is_here: bool) {
+        for at in first..end {
             if let Some(ended) = self.ended.get_mut(at) {
                 ended.is_here = is_here;
+            }
+        }
+    }
+
+    /// Of these ended names, those that ended in other parts, or after a position, don't count in
+    /// what is written next.
+    pub fn hide_ended(&mut self, first: usize, end: usize, after: usize, others: &OtherParts) {
+        for index in first..end {
+            if let Some(ended) = self.ended.get_mut(index) {
+                if ended.at > after || others.have(ended.at) {
+                    ended.is_here = false;
+                }
             }
         }
     }
@@ -456,7 +508,7 @@ impl Code {
         }
         self.stamp = self.stamp.saturating_add(1);
         self.registers = success.merge(&self.registers, self.stamp);
-        self.show_ended(part.first_ended, true);
+        self.show_ended(part.first_ended, self.ended.len(), true);
         self.emit(Operation::End, [0, 0, 0], Operand::Plain(0))
     }
 
@@ -534,6 +586,7 @@ impl Code {
         let ended = EndedName {
             name,
             span,
+            at: self.instructions.len(),
             is_here: true,
         };
         append(&mut self.ended, ended, &mut self.trouble)

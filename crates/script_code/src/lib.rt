@@ -17,7 +17,7 @@ mod registers;
 mod types;
 
 pub use client::Compiled;
-pub use code::{Code, CodeMark, Emitted, EndedName, NONE, OpenPart, Operand};
+pub use code::{Code, CodeMark, Emitted, EndedName, NONE, OpenPart, Operand, OtherParts};
 pub use constants::{ConstantAt, Constants};
 pub use error::{About, Error, Problem, Trouble, Warning, WarningKind, append, append_bytes};
 pub use hint::Hint;

@@ -3,7 +3,9 @@
 
 use crate::compiler::{Compiler, Mark};
 use client_code::Operation;
-use script_code::{COUNT, ErrorKind, Key, Meaning, NOWHERE, Name, Place, Register, Root, append};
+use script_code::{
+    COUNT, ErrorKind, Key, Meaning, NOWHERE, Name, OtherParts, Place, Register, Root, append,
+};
 use script_syntax::{Span, StatementAt, Tree};
 use script_values::{Sequence, Task};
 
@@ -38,6 +40,15 @@ pub struct Deferred {
     /// The names which they see, a range of the list of names which are kept.
     first: usize,
     end: usize,
+    /// How many of these names aren't visible, if the names before the nest aren't either.
+    hidden: Option<usize>,
+    /// The position of the instruction that sets the flag.
+    at: usize,
+    /// What doesn't run if these statements do.
+    others: OtherParts,
+    /// The names which ended in these statements, a range of the list of ended names.
+    first_ended: usize,
+    end_ended: usize,
 }
 
 /// A name which is bound again, and where its place was removed.
@@ -88,6 +99,9 @@ impl Copies {
 impl Compiler {
     /// Begins a nest here.
     pub fn begin_nest(&mut self, kind: NestKind) {
+        if let NestKind::Deferred(at) = kind {
+            self.hide_others(at);
+        }
         let nest = Nest {
             kind,
             mark: self.mark(),
@@ -156,6 +170,62 @@ impl Compiler {
         }
         self.deferred.truncate(nest.mark.deferred);
         self.kept.truncate(nest.mark.kept);
+        if let NestKind::Deferred(at) = nest.kind {
+            self.show_others(at, nest.mark.emitter.code.ended);
+        }
+    }
+
+    /// Names don't count as ended in statements that were put off in the innermost nest, if they
+    /// ended where these statements don't run.
+    fn hide_others(&mut self, at: usize) {
+        let (Some(nest), Some(deferred)) = (self.nests.last(), self.deferred.get(at).copied())
+        else {
+            return;
+        };
+        let (first, begun) = (nest.mark.deferred, nest.mark.emitter.code.ended);
+        // the statements that were put off first come right after the nest's own code
+        let end = match self.deferred.get(first) {
+            Some(earliest) if first < at => earliest.first_ended,
+            _ => self.emitter.code.ended.len(),
+        };
+        self.emitter
+            .code
+            .hide_ended(begun, end, deferred.at, &deferred.others);
+        for earlier in first..at {
+            if self.is_excluded(earlier, at) {
+                self.hide_ended_in(earlier);
+            }
+        }
+    }
+
+    /// Names don't count as ended if they ended in statements that were put off.
+    fn hide_ended_in(&mut self, at: usize) {
+        if let Some(deferred) = self.deferred.get(at).copied() {
+            let (first, end) = (deferred.first_ended, deferred.end_ended);
+            self.emitter.code.show_ended(first, end, false);
+        }
+    }
+
+    /// After statements that were put off in the innermost nest: all names count as ended again
+    /// that ended in the nest, with those from `first` on, which ended in these statements.
+    fn show_others(&mut self, at: usize, first: usize) {
+        let end = self.emitter.code.ended.len();
+        if let Some(deferred) = self.deferred.get_mut(at) {
+            deferred.first_ended = first;
+            deferred.end_ended = end;
+        }
+        if let Some(nest) = self.nests.last() {
+            let begun = nest.mark.emitter.code.ended;
+            self.emitter.code.show_ended(begun, end, true);
+        }
+    }
+
+    /// Whether statements that were put off don't run if others run that were put off later.
+    fn is_excluded(&self, earlier: usize, later: usize) -> bool {
+        match (self.deferred.get(earlier), self.deferred.get(later)) {
+            (Some(earlier), Some(later)) => later.others.have(earlier.at),
+            _ => false,
+        }
     }
 
     /// Runs statements that were put off, if their register is set.
@@ -169,17 +239,21 @@ impl Compiler {
         self.emitter.code.open_if(test);
         self.emitter.code.usage.free(test);
         self.emitter.code.usage.release(deferred.flag);
-        let names = self.emitter.names.len();
+        let (names, base) = (self.emitter.names.len(), self.emitter.names.base);
         for at in deferred.first..deferred.end {
             if let Some(kept) = self.kept.get(at).copied() {
                 self.bind_kept(&kept);
             }
         }
+        if let Some(hidden) = deferred.hidden {
+            self.emitter.names.base = names.saturating_add(hidden);
+        }
         let mut tail = deferred.tail;
         tail.is_guarded = false;
         self.emitter.then(&[
             Task::Sequence(tail),
-            Task::EndDeferred(at, names),
+            Task::EndDeferred(names),
+            Task::SetBase(base),
             Task::Else,
             Task::EndPart,
         ])
@@ -187,25 +261,44 @@ impl Compiler {
 
     /// Ends statements that were put off, whose names begin at a position. What they removed is
     /// gone for those that are done later.
-    pub fn end_deferred(&mut self, at: usize, names: usize) {
-        if let Some(deferred) = self.deferred.get(at).copied() {
-            for position in names..self.emitter.names.len() {
-                if let Some(name) = self.emitter.names.get(position) {
-                    if let Some(removed) = self.emitter.code.where_ended(name.id) {
-                        self.end_kept(&deferred, name.span, removed);
-                    }
+    pub fn end_deferred(&mut self, names: usize) {
+        for position in names..self.emitter.names.len() {
+            if let Some(name) = self.emitter.names.get(position) {
+                if let Some(removed) = self.emitter.code.where_ended(name.id) {
+                    self.end_kept(name.span, removed);
                 }
             }
         }
         self.end_scope(names)
     }
 
-    /// Ends a name which other statements than these keep too.
-    fn end_kept(&mut self, deferred: &Deferred, name: Span, removed: Span) {
-        for at in 0..self.kept.len() {
-            let is_own = deferred.first <= at && at < deferred.end;
-            if let Some(kept) = self.kept.get_mut(at) {
-                if !is_own && kept.span.start == name.start {
+    /// Ends a name for the statements that may be done after those of the innermost nest.
+    fn end_kept(&mut self, name: Span, removed: Span) {
+        for level in (1..self.nests.len()).rev() {
+            let Some(Nest {
+                kind: NestKind::Deferred(at),
+                mark,
+                ..
+            }) = self.nests.get(level).copied()
+            else {
+                return;
+            };
+            for later in at.saturating_add(1)..mark.deferred {
+                if !self.is_excluded(at, later) {
+                    self.end_kept_in(later, name, removed);
+                }
+            }
+        }
+    }
+
+    /// Ends a name for these statements that were put off.
+    fn end_kept_in(&mut self, at: usize, name: Span, removed: Span) {
+        let Some(deferred) = self.deferred.get(at).copied() else {
+            return;
+        };
+        for position in deferred.first..deferred.end {
+            if let Some(kept) = self.kept.get_mut(position) {
+                if kept.span.start == name.start {
                     kept.ended = Some(removed);
                 }
             }
@@ -288,6 +381,7 @@ impl Compiler {
         let Some(flag) = self.take_reserved() else {
             return self.restart_nest(nest);
         };
+        let at = self.emitter.code.instructions.len();
         self.emitter.code.number(flag, 1);
         let start = tail_start(tree, &tail);
         let used = self.used_registers(tree, nest.mark.emitter.names, start);
@@ -304,6 +398,11 @@ impl Compiler {
             flag,
             first,
             end,
+            hidden: self.emitter.names.base.checked_sub(nest.mark.emitter.names),
+            at,
+            others: self.emitter.code.other_parts(),
+            first_ended: 0,
+            end_ended: 0,
         };
         append(&mut self.deferred, deferred, &mut self.emitter.code.trouble);
     }

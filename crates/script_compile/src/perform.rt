@@ -46,7 +46,7 @@ impl Compiler {
             }
             Task::BeginDeferred(at) => self.begin_nest(NestKind::Deferred(at)),
             Task::RunDeferred(at) => self.run_deferred(at),
-            Task::EndDeferred(at, names) => self.end_deferred(at, names),
+            Task::EndDeferred(names) => self.end_deferred(names),
             other => self.perform_construct(tree, other),
         }
     }

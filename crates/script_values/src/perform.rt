@@ -30,6 +30,7 @@ impl Emitter {
         match task {
             Task::CloseWalk(walk, handler, code) => self.close_handling(&walk, handler, code),
             Task::CloseNoting(walk, code) => self.close_noting(&walk, code),
+            Task::TellNoRoom(code) => self.tell_no_room(code),
             Task::Handle(handler, code) => self.handle(handler, code),
             Task::HandleIf(code, handler) => self.handle_if(code, handler),
             other => return self.perform_number(tree, other),

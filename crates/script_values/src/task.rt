@@ -64,6 +64,8 @@ pub struct Walk {
     /// The register that the walk holds.
     pub held: Option<Register>,
     pub is_frozen: bool,
+    /// Whether it begins with a value of an array, and makes the array if it isn't there.
+    pub makes_array: bool,
 }
 
 /// What is done if something fails.
@@ -154,7 +156,7 @@ pub enum Task {
     BeginDeferred(usize),
     RunDeferred(usize),
     /// Ends the statements with this number, whose names begin here.
-    EndDeferred(usize, usize),
+    EndDeferred(usize),
     SetFlat(bool),
     // parts and registers
     Else,
@@ -165,6 +167,8 @@ pub enum Task {
     CloseWalk(Walk, Handler, Option<Register>),
     CloseNoting(Walk, Register),
     Handle(Handler, Register),
+    /// The register has the code of an array's lookup, before which the array was made.
+    TellNoRoom(Register),
     /// Runs the first, unless the register is 0.
     HandleIf(Register, Handler),
     SetBase(usize),

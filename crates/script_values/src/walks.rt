@@ -9,6 +9,9 @@ use script_code::{
 };
 use script_syntax::{ElsePart, Span, Statement};
 
+/// The code of an object that isn't there. The code before it tells that memory ran out.
+const ABSENT: i64 = 3;
+
 /// The position where a walk begins.
 #[derive(Clone, Copy)]
 struct Start {
@@ -37,6 +40,7 @@ impl Walk {
             register,
             held: None,
             is_frozen: false,
+            makes_array: false,
         }
     }
 
@@ -141,7 +145,10 @@ impl Emitter {
         };
         let register = walk.register;
         match key {
-            Some(key) => self.open_element(register, object, key, makes),
+            Some(key) => {
+                walk.makes_array = makes && matches!(object.kind, ObjectKind::Array(_));
+                self.open_element(register, object, key, makes)
+            }
             None => self.open_object(register, object, makes),
         }
         walk.add(register)
@@ -334,10 +341,26 @@ impl Emitter {
     pub fn close_noting(&mut self, walk: &Walk, code: Register) {
         for at in (0..walk.count).rev() {
             if at < DEPTH {
-                self.code.close_noting(walk.opened[at], code);
+                self.code.begin_else();
+                if at == 0 && walk.makes_array {
+                    self.tell_no_room(walk.opened[at]);
+                }
+                self.code.copy(code, walk.opened[at]);
+                self.code.end_part();
             }
         }
         self.release_walk(walk);
+    }
+
+    /// In the else part of the lookup of an array's value, before which the array was made: if it
+    /// isn't there, memory ran out. The register's code becomes that of the instruction which makes
+    /// the array.
+    pub fn tell_no_room(&mut self, code: Register) {
+        let is_absent = self.code.literal(ABSENT);
+        self.code
+            .compute(Operation::Equal, is_absent, code, is_absent);
+        self.code.compute(Operation::Sub, code, code, is_absent);
+        self.code.usage.free(is_absent);
     }
 
     fn release_walk(&mut self, walk: &Walk) {
@@ -389,7 +412,11 @@ impl Emitter {
         for at in 0..walk.count {
             if at < DEPTH {
                 let code = walk.opened[at];
-                self.then(&[Task::Else, Task::Handle(handler, code), Task::EndPart]);
+                self.then(&[Task::Handle(handler, code), Task::EndPart]);
+                if at == 0 && walk.makes_array {
+                    self.push_task(Task::TellNoRoom(code));
+                }
+                self.push_task(Task::Else);
             }
         }
     }
