@@ -104,6 +104,8 @@ CASES = [
     Case(["compile", "increment.lez", "fill.client", "--on", "counter.image"], "fill.client"),
     Case(["compile", "warned.lez", "notes", "--force"], "notes"),
     Case(["run", "counter.image", "counter.image", "increment.lez"], "counter.image"),
+    Case(["run", "counter.image", "counter.image", "increment.text"], "counter.image"),
+    Case(["run", "counter.image", "large.image", "increment.client", "--keep-on-failure"], "large.image"),
     Case(["set", "counter.image", "x", "7"], "counter.image", is_new=True),
     Case(["set", "filled.image", "lines[1]", "another line"], "filled.image", is_new=True),
     Case(["del", "counter.image", "x"], "counter.image", absent="absent x", is_new=True),

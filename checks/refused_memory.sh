@@ -69,6 +69,12 @@ try stat counter.image --all
 try list counter.image
 try list counter.image --types
 try types counter.image
+for command in check stat list types show map; do
+  try $command counter.image --json
+done
+try verify counter.image increment.text --explain
+try run counter.image saved.image increment.text --keep-on-failure
+try trace counter.image increment.text
 try show counter.image
 try show counter.image x --all
 try get counter.image x

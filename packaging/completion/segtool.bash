@@ -28,21 +28,21 @@ _segtool()
     elif [[ $current == -* ]]; then
         case $command in
             new) words='--force --explain -h --help' ;;
-            check) words='--explain -h --help' ;;
+            check) words='--json --explain -h --help' ;;
             verify) words='--explain -h --help' ;;
-            run) words='--base --room --input --force --explain -h --help' ;;
+            run) words='--base --room --input --force --keep-on-failure --explain -h --help' ;;
             trace) words='--input --step --only --last --changes --explain -h --help' ;;
-            stat) words='--all --explain -h --help' ;;
-            list) words='--types --explain -h --help' ;;
-            types) words='--explain -h --help' ;;
-            show) words='--all --types --explain -h --help' ;;
+            stat) words='--json --all --explain -h --help' ;;
+            list) words='--json --types --explain -h --help' ;;
+            types) words='--json --explain -h --help' ;;
+            show) words='--json --all --types --explain -h --help' ;;
             get) words='--explain -h --help' ;;
             set) words='--explain -h --help' ;;
             del) words='--explain -h --help' ;;
             dump) words='--explain -h --help' ;;
             load) words='--force --explain -h --help' ;;
             diff) words='--explain -h --help' ;;
-            map) words='--svg --force --explain -h --help' ;;
+            map) words='--json --svg --force --explain -h --help' ;;
             grow) words='--explain -h --help' ;;
             shrink) words='--explain -h --help' ;;
             upgrade) words='--explain -h --help' ;;

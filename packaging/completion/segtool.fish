@@ -65,6 +65,7 @@ complete -c segtool -n '__segtool_at new 1' -F
 complete -c segtool -n '__segtool_at new 3' -a 'seq best' -d 'The allocator: sequential fit or best fit'
 complete -c segtool -n '__segtool_at new 4' -a 'flat tree' -d 'The index of names: a sorted buffer (flat) or a red-black tree (tree)'
 
+complete -c segtool -n 'test "$(__segtool_command)" = check' -l json -d 'Print all of it as JSON'
 complete -c segtool -n 'test "$(__segtool_command)" = check' -l explain -d 'After a failure, also print what is wrong, where, and what would be right'
 complete -c segtool -n 'test "$(__segtool_command)" = check' -s h -l help -d 'Print help'
 complete -c segtool -n '__segtool_at check 1' -F
@@ -78,6 +79,7 @@ complete -c segtool -n 'test "$(__segtool_command)" = run' -l base -x -d 'The po
 complete -c segtool -n 'test "$(__segtool_command)" = run' -l room -x -d 'The size of the host\'s region in bytes [default: as much as the segment needs]'
 complete -c segtool -n 'test "$(__segtool_command)" = run' -l input -r -F -d 'The file that the clients read, byte by byte; - is the standard input [default: empty]'
 complete -c segtool -n 'test "$(__segtool_command)" = run' -l force -d 'Overwrite a file even if it isn\'t an image'
+complete -c segtool -n 'test "$(__segtool_command)" = run' -l keep-on-failure -d 'If the output fails, leave OUT as it is'
 complete -c segtool -n 'test "$(__segtool_command)" = run' -l explain -d 'After a failure, also print what is wrong, where, and what would be right'
 complete -c segtool -n 'test "$(__segtool_command)" = run' -s h -l help -d 'Print help'
 complete -c segtool -n '__segtool_at run 1' -F
@@ -94,20 +96,24 @@ complete -c segtool -n 'test "$(__segtool_command)" = trace' -s h -l help -d 'Pr
 complete -c segtool -n '__segtool_at trace 1' -F
 complete -c segtool -n '__segtool_at trace 2 +' -F
 
+complete -c segtool -n 'test "$(__segtool_command)" = stat' -l json -d 'Print all of it as JSON'
 complete -c segtool -n 'test "$(__segtool_command)" = stat' -l all -d 'Also print the version, the allocator, the index, the number of types and blocks, and fragmentation'
 complete -c segtool -n 'test "$(__segtool_command)" = stat' -l explain -d 'After a failure, also print what is wrong, where, and what would be right'
 complete -c segtool -n 'test "$(__segtool_command)" = stat' -s h -l help -d 'Print help'
 complete -c segtool -n '__segtool_at stat 1' -F
 
+complete -c segtool -n 'test "$(__segtool_command)" = list' -l json -d 'Print all of it as JSON'
 complete -c segtool -n 'test "$(__segtool_command)" = list' -l types -d 'Also print each object\'s type in words'
 complete -c segtool -n 'test "$(__segtool_command)" = list' -l explain -d 'After a failure, also print what is wrong, where, and what would be right'
 complete -c segtool -n 'test "$(__segtool_command)" = list' -s h -l help -d 'Print help'
 complete -c segtool -n '__segtool_at list 1' -F
 
+complete -c segtool -n 'test "$(__segtool_command)" = types' -l json -d 'Print all of it as JSON'
 complete -c segtool -n 'test "$(__segtool_command)" = types' -l explain -d 'After a failure, also print what is wrong, where, and what would be right'
 complete -c segtool -n 'test "$(__segtool_command)" = types' -s h -l help -d 'Print help'
 complete -c segtool -n '__segtool_at types 1' -F
 
+complete -c segtool -n 'test "$(__segtool_command)" = show' -l json -d 'Print all of it as JSON'
 complete -c segtool -n 'test "$(__segtool_command)" = show' -l all -d 'Print long texts, long containers and deeply nested values in full'
 complete -c segtool -n 'test "$(__segtool_command)" = show' -l types -d 'Print each object\'s type after its name, in words'
 complete -c segtool -n 'test "$(__segtool_command)" = show' -l explain -d 'After a failure, also print what is wrong, where, and what would be right'
@@ -141,6 +147,7 @@ complete -c segtool -n 'test "$(__segtool_command)" = diff' -s h -l help -d 'Pri
 complete -c segtool -n '__segtool_at diff 1' -F
 complete -c segtool -n '__segtool_at diff 2' -F
 
+complete -c segtool -n 'test "$(__segtool_command)" = map' -l json -d 'Print all of it as JSON'
 complete -c segtool -n 'test "$(__segtool_command)" = map' -l svg -r -F -d 'Write a picture to this file instead of printing'
 complete -c segtool -n 'test "$(__segtool_command)" = map' -l force -d 'Overwrite a file even if it isn\'t an SVG picture'
 complete -c segtool -n 'test "$(__segtool_command)" = map' -l explain -d 'After a failure, also print what is wrong, where, and what would be right'

@@ -3,7 +3,7 @@
 ghost use Rattle.std.specs.Prelude.{◌≡◌, false};
 
 use crate::door::{assembled, opened, printed, verified};
-use crate::programs::{client_of, tell_warnings};
+use crate::programs::{client_of, is_client_text, tell_warnings};
 use cli_explain::{ProgramLines, explain_steps};
 use cli_host::{
     Assembly, Files, Format, is_program, read_file, read_image, refuse_input, refuse_other_format,
@@ -14,8 +14,8 @@ use lezgauri::{Image, Sink, Verified};
 use script_compile::Client;
 use std::alloc::{AllocError, Global};
 
-/// `verify FILE CLIENT`: prints the most steps that the client can take on the image; of a program also what each line takes, if
-/// that is asked for.
+/// `verify FILE CLIENT`: prints the most steps that the client can take on the image; of a program or a text also what each line
+/// takes, if that is asked for.
 pub fn verify_file<'a, F: Files, O: Sink, E: Sink>(
     alloc: Global,
     image: &'a str,
@@ -30,22 +30,23 @@ pub fn verify_file<'a, F: Files, O: Sink, E: Sink>(
     let image = read_image(alloc, files, image)?;
     let bytes = read_file(alloc, files, client)?;
     let image = opened(alloc, image)?;
-    let program = if explained && is_program(client) {
-        Some(bytes.as_slice())
+    let source = bytes.as_slice();
+    let text = if explained && (is_program(client) || is_client_text(client, source)) {
+        Some(source)
     } else {
         None
     };
-    let client = client_of(alloc, client, bytes.as_slice(), image.types())?;
+    let client = client_of(alloc, client, source, image.types())?;
     tell_warnings(&client.warnings, err);
-    verify_client(alloc, &image, &client, program, out)
+    verify_client(alloc, &image, &client, text, out)
 }
 
-/// Prints the most steps of a client, and what each line of its program costs if that is given.
+/// Prints the most steps of a client, and what each line of its text or program costs if that is given.
 fn verify_client<'a, O: Sink>(
     alloc: Global,
     image: &Image<Global>,
     client: &Client,
-    program: Option<&[u8]>,
+    text: Option<&[u8]>,
     out: &mut O,
 ) -> Result<(), Failure<'a>>
     requires works { O.has_failed out.old ≡ false }
@@ -53,7 +54,7 @@ fn verify_client<'a, O: Sink>(
     let verified = verified(image, client.bytes.as_slice())?;
     let bound = verified.bound();
     print(out, format!(in alloc; "steps {bound}\n")?.as_bytes())?;
-    match program {
+    match text {
         Some(text) if !out.failed() => {
             let table = steps_of(alloc, text, client.lines.as_slice(), &verified)?;
             print(out, table.as_bytes())
@@ -62,7 +63,7 @@ fn verify_client<'a, O: Sink>(
     }
 }
 
-/// What each line of a program costs.
+/// What each line of a program or a text costs.
 fn steps_of(
     alloc: Global,
     text: &[u8],

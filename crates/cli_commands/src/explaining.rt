@@ -1,9 +1,9 @@
 ghost use Rattle.std.specs.Prelude.{◌≡◌, false};
 
 use crate::problems::told;
-use crate::programs::compiled_again;
+use crate::programs::{is_client_text, translated_again};
 use cli_explain::{Sources, explain};
-use cli_host::{Files, ImageTask, Request, read_file, read_files, read_image};
+use cli_host::{Files, ImageTask, Request, has_source, read_file, read_files, read_image};
 use cli_program::{Failure, slices, tell};
 use lezgauri::{Fault, Refused, Sink};
 use std::alloc::{AllocError, Global};
@@ -39,21 +39,21 @@ fn words_of<'a, F: Files>(
         Failure::Absent(name) => absent(alloc, name, request),
         Failure::Full(name) => full(alloc, name),
         Failure::File(name, problem) => told(alloc, name, *problem),
-        Failure::Output => Vec::from_slice(alloc, failed_output(request).as_bytes()),
+        Failure::Output => failed_output(alloc, request),
         Failure::Words(_) | Failure::Program(_) => Ok(Vec::new(alloc)),
     }
 }
 
 /// The explanation of a refusal by the library, from the files that could be read.
 fn explained(alloc: Global, refused: &Refused, read: &Read) -> Result<Vec<u8>, AllocError> {
-    let clients = slices(alloc, read.clients.as_slice())?;
+    let clients = slices(alloc, read.clients())?;
     let sources = Sources {
         image: read.image.as_deref(),
         clients: clients.as_slice(),
-        text: read.text.as_deref(),
+        text: read.text_of(refused),
     };
     // the number of the only client isn't needed
-    let client = if clients.len() > 1 {
+    let client = if read.names.len() > 1 {
         refused.client
     } else {
         None
@@ -63,18 +63,23 @@ fn explained(alloc: Global, refused: &Refused, read: &Read) -> Result<Vec<u8>, A
 
 /// The contents of the files that a command works on, if they can be read again.
 #[derive(Drop)]
-struct Read {
+struct Read<'a> {
     image: Option<Vec<u8>>,
-    clients: Vec<Vec<u8>>,
+    /// The text to assemble.
     text: Option<Vec<u8>>,
+    /// The names of the clients' files, and what they contain.
+    names: Vec<&'a str>,
+    sources: Vec<Vec<u8>>,
+    /// What these are translated to, if some of them are programs or texts.
+    translated: Option<Vec<Vec<u8>>>,
 }
 
-impl Read {
+impl<'a> Read<'a> {
     fn again<F: Files>(
         alloc: Global,
-        request: &Request,
+        request: &Request<'a>,
         files: &mut F,
-    ) -> Result<Read, AllocError> {
+    ) -> Result<Read<'a>, AllocError> {
         let image = match image_of(request) {
             Some(name) => read_image(alloc, files, name).ok(),
             None => None,
@@ -88,15 +93,47 @@ impl Read {
             Ok(sources) => sources,
             Err(_) => Vec::new(alloc),
         };
-        let clients = match &image {
-            Some(image) => compiled_again(alloc, names.as_slice(), sources, image.as_slice()),
-            None => sources,
-        };
-        Ok(Read {
+        let mut read = Read {
             image,
-            clients,
             text,
-        })
+            names,
+            sources,
+            translated: None,
+        };
+        read.translate(alloc);
+        Ok(read)
+    }
+
+    /// Translates programs and texts.
+    fn translate(&mut self, alloc: Global) {
+        let names = self.names.as_slice();
+        if let (Some(image), true) = (&self.image, has_source(names)) {
+            let clients =
+                translated_again(alloc, names, self.sources.as_slice(), image.as_slice());
+            self.translated = Some(clients);
+        }
+    }
+
+    /// The clients, as far as they can be translated.
+    fn clients(&self) -> &[Vec<u8>] {
+        match &self.translated {
+            Some(clients) => clients.as_slice(),
+            None => self.sources.as_slice(),
+        }
+    }
+
+    /// The text to assemble, or the text of the refused client.
+    fn text_of(&self, refused: &Refused) -> Option<&[u8]> {
+        if let Some(text) = &self.text {
+            return Some(text.as_slice());
+        }
+        let number = refused.client.unwrap_or(0);
+        let (name, source) = (self.names.get(number)?, self.sources.get(number)?);
+        if is_client_text(name, source.as_slice()) {
+            Some(source.as_slice())
+        } else {
+            None
+        }
     }
 }
 
@@ -110,7 +147,7 @@ fn text_of<'a>(request: &Request<'a>) -> Option<&'a str> {
         | Request::Load(_)
         | Request::Verify { .. }
         | Request::Run(_)
-        | Request::RunPrograms(_)
+        | Request::RunSources(_)
         | Request::Trace(_)
         | Request::Compile(_)
         | Request::Print { .. }
@@ -123,7 +160,7 @@ fn image_of<'a>(request: &Request<'a>) -> Option<&'a str> {
     match request {
         Request::Image { file, .. } => Some(file),
         Request::Verify { image, .. } => Some(image),
-        Request::Run(run) | Request::RunPrograms(run) => Some(run.image),
+        Request::Run(run) | Request::RunSources(run) => Some(run.image),
         Request::Trace(trace) => Some(trace.image),
         Request::Compile(compilation) => compilation.image,
         Request::New(_)
@@ -142,7 +179,7 @@ fn clients_of<'a>(alloc: Global, request: &Request<'a>) -> Result<Vec<&'a str>, 
             Vec::from_slice(alloc, &[*client])
         }
         Request::Trace(trace) => Vec::from_slice(alloc, trace.clients.as_slice()),
-        Request::Run(run) | Request::RunPrograms(run) => {
+        Request::Run(run) | Request::RunSources(run) => {
             Vec::from_slice(alloc, run.clients.as_slice())
         }
         Request::New(_)
@@ -205,9 +242,23 @@ fn absent_object(alloc: Global, name: &str) -> Result<Vec<u8>, AllocError> {
 }
 
 /// What a failed output means for a command.
-fn failed_output(request: &Request) -> &'static str {
+fn failed_output(alloc: Global, request: &Request) -> Result<Vec<u8>, AllocError> {
     match request {
-        Request::Run(_) | Request::RunPrograms(_) => {
+        Request::Run(run) | Request::RunSources(run) if run.keeps_on_failure => {
+            let out = run.out;
+            let words = format!(in alloc;
+                "the output couldn't be written, and the run ended there; `{out}` stays as it was\n"
+            )?;
+            Ok(words.into_bytes())
+        }
+        _ => Vec::from_slice(alloc, saved_anyway(request).as_bytes()),
+    }
+}
+
+/// What a failed output means for a command that saves what it made all the same.
+fn saved_anyway(request: &Request) -> &'static str {
+    match request {
+        Request::Run(_) | Request::RunSources(_) => {
             "the output couldn't be written, and the run ended there; the image as it was then was saved, unless its file failed too\n"
         }
         Request::Image {

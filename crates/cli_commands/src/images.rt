@@ -3,10 +3,11 @@
 ghost use Rattle.std.specs.Prelude.{◌≡◌, false};
 
 use crate::door::opened;
-use crate::made::{Made, made_of, new_image};
+use crate::json_texts::unsound;
+use crate::made::{Made, Unmade, made_of, new_image};
 use cli_host::{
-    FileFailure, Files, Format, ImageTask, Load, NewImage, Picture, read_image, refuse_input,
-    refuse_other_format, write_file,
+    FileFailure, Files, Format, ImageTask, JsonTask, Load, NewImage, Picture, read_image,
+    refuse_input, refuse_other_format, write_file,
 };
 use cli_program::{Failure, print};
 use cli_values::{Unloaded, differences, loaded};
@@ -83,10 +84,37 @@ pub fn image_file<'a, F: Files, O: Sink>(
     if let Some(picture) = picture {
         check_picture(alloc, file, picture, files)?;
     }
-    let made = made_of(alloc, image, task)?;
+    let made = match made_of(alloc, image, task) {
+        Ok(made) => made,
+        Err(unmade) => return fail(alloc, unmade, task, out),
+    };
     match picture {
         Some(picture) => Ok(write_file(files, picture.file, made.text.as_slice())?),
         None => give(file, &made, files, out),
+    }
+}
+
+/// Fails, after `check --json` printed that the image isn't sound.
+fn fail<'a, O: Sink>(
+    alloc: Global,
+    unmade: Unmade<'a>,
+    task: ImageTask<'a>,
+    out: &mut O,
+) -> Result<(), Failure<'a>>
+    requires works { O.has_failed out.old ≡ false }
+{
+    if let (Some(fault), ImageTask::Json(JsonTask::Check)) = (fault_of(&unmade), task) {
+        if let Some(text) = unsound(alloc, fault)? {
+            print(out, text.as_slice())?;
+        }
+    }
+    Err(Failure::from(unmade))
+}
+
+fn fault_of(unmade: &Unmade) -> Option<Fault> {
+    match unmade {
+        Unmade::Fault(fault) => Some(*fault),
+        Unmade::Absent(_) | Unmade::Full(_) | Unmade::Words(_) => None,
     }
 }
 
@@ -109,6 +137,7 @@ fn picture_of<'a>(task: ImageTask<'a>) -> Option<Picture<'a>> {
     match task {
         ImageTask::Picture(picture) => Some(picture),
         ImageTask::Check
+        | ImageTask::Json(_)
         | ImageTask::Stat { .. }
         | ImageTask::List { .. }
         | ImageTask::Types

@@ -6,6 +6,7 @@ mod door;
 mod editing;
 mod explaining;
 mod images;
+mod json_texts;
 mod listing;
 mod made;
 mod problems;

@@ -2,38 +2,52 @@
 
 use crate::made::Unmade;
 use cli_show::{
-    Detail, Extent, all_objects, details, heap_lines, picture, some_objects, type_lines, type_words,
+    Detail, Extent, Statistic, details, heap_lines, objects_text, picture, statistic_lines,
+    type_lines, type_words,
 };
 use cli_values::values_at;
 use lezgauri::{Image, ImageRead, MAX_TYPES, Named, TypeId};
 use std::alloc::{AllocError, Global};
 
-/// The bytes of a segment, of its free memory and of its largest free block, and the number of its objects, a line each.
-pub(crate) fn statistics(alloc: Global, image: &Image<Global>) -> Result<Vec<u8>, AllocError> {
-    let size = image.size();
-    let free = image.free_memory();
-    let largest = image.largest_gap();
-    let named = image.num_named();
-    let unique = image.num_unique();
-    let lines = format!(in alloc;
-        "size {size}\nfree {free}\nlargest {largest}\nnamed {named}\nunique {unique}\n"
-    )?;
-    Ok(lines.into_bytes())
+/// The bytes of a segment, of its free memory and of its largest free block, and the number of its objects.
+fn statistics(image: &Image<Global>) -> [Statistic; 5] {
+    let unique = u32::try_from(image.num_unique()).unwrap_or(u32::MAX);
+    [
+        Statistic::number("size", image.size()),
+        Statistic::number("free", image.free_memory()),
+        Statistic::number("largest", image.largest_gap()),
+        Statistic::number("named", image.num_named()),
+        Statistic::number("unique", unique),
+    ]
 }
 
-/// The lines of `statistics`, and further ones: the version of the image's file, and how its heap is used.
+/// The numbers of `statistics`, and further ones: the version of the image's file, and how its heap is used.
 pub(crate) fn all_statistics(
     alloc: Global,
     image: &Image<Global>,
     version: u32,
-) -> Result<Vec<u8>, AllocError> {
-    let mut lines = statistics(alloc, image)?;
+) -> Result<Vec<Statistic>, AllocError> {
+    let mut all = Vec::from_slice(alloc, &statistics(image))?;
     let further = match image {
         Image::Seq(segment) => details(alloc, segment, version)?,
         Image::Best(segment) => details(alloc, segment, version)?,
     };
-    lines.extend_from_slice(further.as_slice())?;
-    Ok(lines)
+    all.extend_from_slice(&further)?;
+    Ok(all)
+}
+
+/// The most important numbers of a segment, a line each.
+pub(crate) fn some_numbers(alloc: Global, image: &Image<Global>) -> Result<Vec<u8>, AllocError> {
+    statistic_lines(alloc, &statistics(image))
+}
+
+/// All numbers of a segment, a line each.
+pub(crate) fn all_numbers(
+    alloc: Global,
+    image: &Image<Global>,
+    version: u32,
+) -> Result<Vec<u8>, AllocError> {
+    statistic_lines(alloc, all_statistics(alloc, image, version)?.as_slice())
 }
 
 /// The names in ascending order with types and counts, and then the types of unique objects, a line each. If `typed`, each type's
@@ -104,12 +118,9 @@ pub(crate) fn shown<'a>(
     name: Option<&'a str>,
     detail: Detail,
 ) -> Result<Vec<u8>, Unmade<'a>> {
-    match name {
-        Some(name) => match named(alloc, image, name, detail)? {
-            Some(text) => Ok(text),
-            None => Err(Unmade::Absent(name)),
-        },
-        None => Ok(all(alloc, image, detail)?),
+    match selected(alloc, image, name, detail)? {
+        Some(text) => Ok(text),
+        None => Err(Unmade::Absent(name.unwrap_or(""))),
     }
 }
 
@@ -119,24 +130,20 @@ pub(crate) fn detail(whole: bool, typed: bool) -> Detail {
     Detail { extent, typed }
 }
 
-/// All objects and their values.
-fn all(alloc: Global, image: &Image<Global>, detail: Detail) -> Result<Vec<u8>, AllocError> {
-    match image {
-        Image::Seq(segment) => all_objects(alloc, segment, detail),
-        Image::Best(segment) => all_objects(alloc, segment, detail),
-    }
-}
-
-/// The objects that a name or a pattern selects. `None` if it selects nothing.
-fn named(
+/// The objects that a name or a pattern selects, or all objects. `None` if nothing is selected.
+fn selected(
     alloc: Global,
     image: &Image<Global>,
-    name: &str,
+    name: Option<&str>,
     detail: Detail,
 ) -> Result<Option<Vec<u8>>, AllocError> {
+    let name = match name {
+        Some(name) => Some(name.as_bytes()),
+        None => None,
+    };
     match image {
-        Image::Seq(segment) => some_objects(alloc, segment, name.as_bytes(), detail),
-        Image::Best(segment) => some_objects(alloc, segment, name.as_bytes(), detail),
+        Image::Seq(segment) => objects_text(alloc, segment, name, detail),
+        Image::Best(segment) => objects_text(alloc, segment, name, detail),
     }
 }
 

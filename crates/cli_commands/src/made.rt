@@ -1,7 +1,8 @@
 use crate::door::{created, grown, opened, shrunk};
 use crate::editing::{delete_value, set_value};
+use crate::json_texts::json_of;
 use crate::listing::{
-    all_statistics, blocks, detail, objects, pictured, shown, size, statistics, types, values,
+    all_numbers, blocks, detail, objects, pictured, shown, size, some_numbers, types, values,
 };
 use cli_host::{Allocator, ImageTask, Index, NewImage};
 use cli_program::Failure;
@@ -105,8 +106,9 @@ fn text_of<'a>(
 ) -> Result<Vec<u8>, Unmade<'a>> {
     match task {
         ImageTask::Check => Ok(Vec::from_slice(alloc, b"ok\n")?),
-        ImageTask::Stat { all: false } => Ok(statistics(alloc, image)?),
-        ImageTask::Stat { all: true } => Ok(all_statistics(alloc, image, version)?),
+        ImageTask::Json(task) => json_of(alloc, image, version, task),
+        ImageTask::Stat { all: false } => Ok(some_numbers(alloc, image)?),
+        ImageTask::Stat { all: true } => Ok(all_numbers(alloc, image, version)?),
         ImageTask::List { typed } => Ok(objects(alloc, image, typed)?),
         ImageTask::Types => Ok(types(alloc, image)?),
         ImageTask::Show { name, whole, typed } => shown(alloc, image, name, detail(whole, typed)),
@@ -132,6 +134,7 @@ fn is_change(task: ImageTask) -> bool {
         | ImageTask::Shrink
         | ImageTask::Upgrade => true,
         ImageTask::Check
+        | ImageTask::Json(_)
         | ImageTask::Stat { .. }
         | ImageTask::List { .. }
         | ImageTask::Types

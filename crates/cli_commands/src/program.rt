@@ -5,7 +5,7 @@ ghost use Rattle.cli_commands.specs.Requests.{OfRun};
 use crate::clients::{assemble_file, print_file, verify_file};
 use crate::explaining::explain_failure;
 use crate::images::{compare_files, image_file, load_file, new_file};
-use crate::programs::{compile_file, run_programs};
+use crate::programs::{compile_file, run_sources};
 use crate::traces::trace_files;
 use cli_host::{Asked, Files, Request};
 use cli_program::{Failure, print, report, run_files, tell_failure};
@@ -87,7 +87,7 @@ fn perform<'a, F: Files, O: Sink, E: Sink>(
             verify_file(alloc, image, client, asked.explained, files, out, err)
         }
         Request::Run(run) => run_files(alloc, run, files, out),
-        Request::RunPrograms(run) => run_programs(alloc, run, files, out, err),
+        Request::RunSources(run) => run_sources(alloc, run, files, out, err),
         Request::Trace(trace) => trace_files(alloc, trace, files, out, err),
         Request::Assemble(assembly) => assemble_file(alloc, assembly, files),
         Request::Compile(compilation) => compile_file(alloc, compilation, files, err),

@@ -1,14 +1,15 @@
-//! Programs: the command that compiles one, and programs in place of clients.
+//! Programs: the command that compiles one, and programs and assembler texts in place of clients.
 
 ghost use Rattle.std.specs.Prelude.{◌≡◌, false};
 
-use crate::door::{checked, compiled, parsed};
+use crate::door::{assembled, checked, compiled, parsed};
+use cli_explain::instruction_lines;
 use cli_host::{
-    Compilation, Files, Format, Run, has_program, is_program, read_file, read_image, refuse_input,
-    refuse_other_format, write_file,
+    Compilation, Files, Format, Run, has_source, is_program, is_text, read_file, read_image,
+    refuse_input, refuse_other_format, write_file,
 };
 use cli_program::{Failure, Inputs, read_inputs, run_inputs, tell};
-use lezgauri::{Fault, Sink, TypeTable};
+use lezgauri::{Fault, Refused, Sink, TypeTable};
 use script_compile::Client;
 use std::alloc::{AllocError, Global};
 
@@ -54,9 +55,9 @@ pub(crate) fn tell_warnings<E: Sink>(warnings: &String, err: &mut E) {
     }
 }
 
-/// `run` of clients of which some are programs: compiles the programs before anything runs, runs the clients, and writes the saved
-/// image, even if their output failed.
-pub fn run_programs<'a, F: Files, O: Sink, E: Sink>(
+/// `run` of clients of which some are programs or texts: translates these before anything runs, runs the clients, and writes the
+/// saved image, also if their output failed, unless the file is kept then.
+pub fn run_sources<'a, F: Files, O: Sink, E: Sink>(
     alloc: Global,
     run: &Run<'a>,
     files: &mut F,
@@ -71,11 +72,12 @@ pub fn run_programs<'a, F: Files, O: Sink, E: Sink>(
         input,
     } = read_inputs(alloc, files, run)?;
     let types = checked(alloc, image.as_slice())?;
-    let Compiled { clients, warnings } = compile_all(
+    let Translated { clients, warnings } = translate_all(
         alloc,
         run.clients.as_slice(),
         sources.as_slice(),
         types,
+        true,
     )?;
     tell_warnings(&warnings, err);
     let inputs = Inputs {
@@ -86,52 +88,65 @@ pub fn run_programs<'a, F: Files, O: Sink, E: Sink>(
     run_inputs(alloc, run, inputs, files, out)
 }
 
-/// Clients of which some were programs, with the warnings of the programs.
+/// Clients of which some were programs or texts, with the warnings of the programs.
 #[derive(Drop)]
-pub(crate) struct Compiled {
+pub(crate) struct Translated {
     pub clients: Vec<Client>,
     pub warnings: String,
 }
 
 /// The clients in files with these names, for an image with these types. Each program is compiled for the types that the clients
-/// before it leave.
-pub(crate) fn compile_all<'a>(
+/// before it leave. A wrong line of a text is told with the client's number if `is_numbered`.
+pub(crate) fn translate_all<'a>(
     alloc: Global,
     names: &[&str],
     sources: &[Vec<u8>],
     types: TypeTable,
-) -> Result<Compiled, Failure<'a>> {
+    is_numbered: bool,
+) -> Result<Translated, Failure<'a>> {
     let mut types = types;
-    let mut compiled = Compiled {
+    let mut translated = Translated {
         clients: Vec::new(alloc),
         warnings: String::new(alloc),
     };
-    for (name, source) in names.iter().zip(sources) {
-        types = compiled.add(alloc, name, source.as_slice(), types)?;
+    for (number, source) in sources.iter().enumerate() {
+        let name = names.get(number).copied().unwrap_or("");
+        let client = match client_of(alloc, name, source.as_slice(), &types) {
+            Ok(client) => client,
+            Err(failure) if is_numbered => return Err(numbered(failure, number)),
+            Err(failure) => return Err(failure),
+        };
+        types = types_after(types, client.bytes.as_slice());
+        translated.add(client)?;
     }
-    Ok(compiled)
+    Ok(translated)
 }
 
-impl Compiled {
-    /// Adds the client in a file with this name, for an image with these types. Returns the types that it leaves.
-    fn add<'a>(
-        &mut self,
-        alloc: Global,
-        name: &str,
-        source: &[u8],
-        types: TypeTable,
-    ) -> Result<TypeTable, Failure<'a>> {
-        let client = client_of(alloc, name, source, &types)?;
+impl Translated {
+    fn add(&mut self, client: Client) -> Result<(), Fault> {
         self.warnings.push_str(client.warnings.as_str())?;
-        let types = types_after(types, client.bytes.as_slice());
         match self.clients.push(client) {
-            Ok(()) => Ok(types),
-            Err(_) => Err(Failure::from(Fault::Memory)),
+            Ok(()) => Ok(()),
+            Err(_) => Err(Fault::Memory),
         }
     }
 }
 
-/// The client in a file with this name, for an image with these types. A program is compiled.
+/// A failure of the client with this number.
+fn numbered<'a>(failure: Failure<'a>, number: usize) -> Failure<'a> {
+    match failure {
+        Failure::Refused(Refused {
+            fault: Fault::BadLine(line),
+            ..
+        }) => Failure::from(Refused {
+            client: Some(number),
+            fault: Fault::BadLine(line),
+        }),
+        other => other,
+    }
+}
+
+/// The client in a file with this name, for an image with these types. A program is compiled, and a text is assembled.
 pub(crate) fn client_of<'a>(
     alloc: Global,
     name: &str,
@@ -141,12 +156,32 @@ pub(crate) fn client_of<'a>(
     if is_program(name) {
         return compiled(alloc, name, source, types);
     }
-    Ok(Client {
-        bytes: Vec::from_slice(alloc, source)?,
-        lines: Vec::new(alloc),
+    if is_client_text(name, source) {
+        return Ok(text_client(alloc, source)?);
+    }
+    Ok(plain_client(Vec::from_slice(alloc, source)?, Vec::new(alloc)))
+}
+
+/// Whether a file with this name and these contents is an assembler text.
+pub(crate) fn is_client_text(name: &str, source: &[u8]) -> bool {
+    is_text(name) && !source.starts_with(Format::Client.magic().as_bytes())
+}
+
+/// The client that a text describes.
+fn text_client(alloc: Global, text: &[u8]) -> Result<Client, Fault> {
+    let bytes = assembled(alloc, text)?;
+    Ok(plain_client(bytes, instruction_lines(alloc, text)?))
+}
+
+/// A client without variables, whose instructions come from these lines of a text, if it has one.
+fn plain_client(bytes: Vec<u8>, lines: Vec<usize>) -> Client {
+    let alloc = *bytes.allocator();
+    Client {
+        bytes,
+        lines,
         variables: Vec::new(alloc),
         warnings: String::new(alloc),
-    })
+    }
 }
 
 /// The files of clients.
@@ -158,26 +193,28 @@ fn files_of(alloc: Global, clients: Vec<Client>) -> Result<Vec<Vec<u8>>, AllocEr
     Ok(files)
 }
 
-/// The clients in files with these names, for the types of an image, as [`run_programs`] compiled them; none if it couldn't.
-pub(crate) fn compiled_again(
+/// The clients in files with these names, for the types of an image, as [`run_sources`] translated them; none if it couldn't.
+pub(crate) fn translated_again(
     alloc: Global,
     names: &[&str],
-    sources: Vec<Vec<u8>>,
+    sources: &[Vec<u8>],
     image: &[u8],
 ) -> Vec<Vec<u8>> {
-    if !has_program(names) {
-        return sources;
-    }
-    let Ok(types) = checked(alloc, image) else {
-        return sources;
-    };
-    let Ok(Compiled { clients, .. }) = compile_all(alloc, names, sources.as_slice(), types) else {
-        return Vec::new(alloc);
-    };
-    match files_of(alloc, clients) {
+    match translated_files(alloc, names, sources, image) {
         Ok(files) => files,
         Err(_) => Vec::new(alloc),
     }
+}
+
+fn translated_files<'a>(
+    alloc: Global,
+    names: &[&str],
+    sources: &[Vec<u8>],
+    image: &[u8],
+) -> Result<Vec<Vec<u8>>, Failure<'a>> {
+    let types = checked(alloc, image)?;
+    let Translated { clients, .. } = translate_all(alloc, names, sources, types, true)?;
+    Ok(files_of(alloc, clients)?)
 }
 
 /// The types of an image after a client has run on it. If the client can't run, it leaves them.

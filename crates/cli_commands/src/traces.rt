@@ -3,7 +3,7 @@
 ghost use Rattle.std.specs.Prelude.{◌≡◌, false};
 
 use crate::door::{opened, ready, types_left};
-use crate::programs::{Compiled, compile_all, tell_warnings};
+use crate::programs::{Translated, tell_warnings, translate_all};
 use cli_host::{Files, Trace, read_files, read_image};
 use cli_program::{Failure, print, read_input};
 use client_trace::{LastLines, SourceMap, StepRange, Untraced, Variable, View, trace_view};
@@ -27,11 +27,12 @@ pub fn trace_files<'a, F: Files, O: Sink, E: Sink>(
     let texts = read_files(alloc, files, trace.clients.as_slice())?;
     let input = read_input(alloc, files, trace.input)?;
     let mut image = opened(alloc, image)?;
-    let Compiled { clients, warnings } = compile_all(
+    let Translated { clients, warnings } = translate_all(
         alloc,
         trace.clients.as_slice(),
         texts.as_slice(),
         types_of(&image),
+        trace.clients.len() > 1,
     )?;
     tell_warnings(&warnings, err);
     test_clients(clients.as_slice(), types_of(&image))?;

@@ -24,11 +24,19 @@ const CLIENT: Argument = Argument {
     help: "The file of the client",
 };
 
-const CLIENT_OR_PROGRAM: Argument = Argument {
+const CLIENT_OR_SOURCE: Argument = Argument {
     id: "CLIENT",
     takes: Takes::Word,
-    help: "The file of the client, or of a program (.lez)",
+    help: "The file of the client, of a program (.lez) or of an assembler text (.text)",
 };
+
+const JSON: Argument = Argument {
+    id: "json",
+    takes: Takes::Flag,
+    help: "Print all of it as JSON",
+};
+
+const IMAGE_AS_JSON: [Argument; 2] = [IMAGE, JSON];
 
 const NEW: [Argument; 5] = [
     Argument {
@@ -80,8 +88,9 @@ const TRACE: [Argument; 7] = [
     },
 ];
 
-const STAT: [Argument; 2] = [
+const STAT: [Argument; 3] = [
     IMAGE,
+    JSON,
     Argument {
         id: "all",
         takes: Takes::Flag,
@@ -89,8 +98,9 @@ const STAT: [Argument; 2] = [
     },
 ];
 
-const LIST: [Argument; 2] = [
+const LIST: [Argument; 3] = [
     IMAGE,
+    JSON,
     Argument {
         id: "types",
         takes: Takes::Flag,
@@ -98,8 +108,9 @@ const LIST: [Argument; 2] = [
     },
 ];
 
-const SHOW: [Argument; 4] = [
+const SHOW: [Argument; 5] = [
     IMAGE,
+    JSON,
     Argument {
         id: "NAME",
         takes: Takes::Optional,
@@ -167,8 +178,9 @@ const COMPARE: [Argument; 2] = [
     },
 ];
 
-const MAP: [Argument; 3] = [
+const MAP: [Argument; 4] = [
     IMAGE,
+    JSON,
     Argument {
         id: "svg",
         takes: Takes::File,
@@ -244,20 +256,20 @@ static RUNNING: &[CommandRow] = &[
     CommandRow {
         name: "check",
         about: "Prints ok if a file is a sound image, otherwise its first fault",
-        arguments: &[IMAGE],
+        arguments: &IMAGE_AS_JSON,
         examples: "Examples:\n  segtool check shop.image\n  segtool check damaged.image --explain",
     },
     CommandRow {
         name: "verify",
         about: "Checks a client and prints the most steps that it can take on an image",
-        arguments: &[IMAGE, CLIENT_OR_PROGRAM],
-        examples: "Examples:\n  segtool verify shop.image stock.client\n  segtool verify shop.image stock.client --explain\n  segtool verify shop.image bytes.lez --explain\n\nOf a program, --explain prints the steps of each line.",
+        arguments: &[IMAGE, CLIENT_OR_SOURCE],
+        examples: "Examples:\n  segtool verify shop.image stock.client\n  segtool verify shop.image stock.client --explain\n  segtool verify shop.image bytes.lez --explain\n\nOf a program or a text, --explain prints the steps of each line.",
     },
     CommandRow {
         name: "run",
         about: "Runs clients on an image, prints their output and saves the image",
         arguments: &RUN,
-        examples: "Examples:\n  segtool run shop.image shop.image stock.client\n  segtool run shop.image saved.image stock.client sell.client --input orders.txt\n  segtool run shop.image shop.image bytes.lez\n\nOUT may be IMAGE, but not a client or the input. A client, and the input, have at most 2^20 bytes.\nIf the output fails (status 3), the run ends there, and the image as it is then is still written to OUT.",
+        examples: "Examples:\n  segtool run shop.image shop.image stock.client\n  segtool run shop.image saved.image stock.client sell.client --input orders.txt\n  segtool run shop.image shop.image bytes.lez\n\nOUT may be IMAGE, but not a client or the input. A client, and the input, have at most 2^20 bytes.\nIf the output fails (status 3), the run ends there, and the image as it is then is still written to OUT, unless --keep-on-failure is given.",
     },
     CommandRow {
         name: "trace",
@@ -284,7 +296,7 @@ static CONTENT: &[CommandRow] = &[
     CommandRow {
         name: "types",
         about: "Prints the types of a segment, as the lines that begin a client's text",
-        arguments: &[IMAGE],
+        arguments: &IMAGE_AS_JSON,
         examples: "Example:\n  segtool types shop.image",
     },
     CommandRow {

@@ -23,7 +23,7 @@ pub use overwriting::{is_same_file, refuse_input, refuse_other_format};
 pub use problem::{FileProblem, Format};
 pub use reading::read;
 pub use request::{
-    Allocator, Asked, Assembly, Compilation, ImageTask, Index, Load, NewImage, Picture, Request,
-    Steps, Trace,
+    Allocator, Asked, Assembly, Compilation, ImageTask, Index, JsonTask, Load, NewImage, Picture,
+    Request, Steps, Trace,
 };
-pub use run::{CLIENTS, FORCE, INPUT, RUN, Run, has_program, is_program, run_of};
+pub use run::{CLIENTS, FORCE, INPUT, RUN, Run, has_source, is_program, is_text, run_of};

@@ -1,9 +1,10 @@
 use crate::command_line::command_line;
 use crate::request::{
-    Allocator, Asked, Assembly, Compilation, ImageTask, Index, Load, NewImage, Picture, Request,
+    Allocator, Asked, Assembly, Compilation, ImageTask, Index, JsonTask, Load, NewImage, Picture,
+    Request,
 };
 use crate::tracing::trace_of;
-use crate::{Misread, Run, has_program, number, run_of, word};
+use crate::{Misread, Run, has_source, number, run_of, word};
 use clap::ArgMatches;
 use std::alloc::Global;
 use std::convert::AsStr;
@@ -36,6 +37,10 @@ fn request_of<'a>(alloc: Global, matches: &ArgMatches<'a>) -> Result<Request<'a>
         Some(("run", arguments)) => Ok(run_request(run_of(alloc, arguments)?)),
         Some(("trace", arguments)) => Ok(Request::Trace(trace_of(alloc, arguments)?)),
         Some(("new", arguments)) => Ok(Request::New(new_of(arguments))),
+        Some(("map", arguments)) => Ok(Request::Image {
+            file: word(arguments, "FILE"),
+            task: map_of(alloc, arguments)?,
+        }),
         Some((command, arguments)) => match task_of(command, arguments) {
             Some(task) => Ok(Request::Image {
                 file: word(arguments, "FILE"),
@@ -48,17 +53,44 @@ fn request_of<'a>(alloc: Global, matches: &ArgMatches<'a>) -> Result<Request<'a>
     }
 }
 
-/// The request to run clients. If some of them are programs, it is another one.
+/// The request to run clients. If some of them are programs or texts, it is another one.
 fn run_request(run: Run<'_>) -> Request<'_> {
-    if has_program(run.clients.as_slice()) {
-        Request::RunPrograms(run)
+    if has_source(run.clients.as_slice()) {
+        Request::RunSources(run)
     } else {
         Request::Run(run)
     }
 }
 
-/// The task of a command, if it is one on an image alone.
+/// The task of a command, if it is one on an image alone, but for `map`.
 fn task_of<'a>(command: &str, arguments: &ArgMatches<'a>) -> Option<ImageTask<'a>> {
+    match json_task_of(command, arguments) {
+        Some(task) => Some(ImageTask::Json(task)),
+        None => text_task_of(command, arguments),
+    }
+}
+
+/// What a command prints as JSON, with `--json`.
+fn json_task_of<'a>(command: &str, arguments: &ArgMatches<'a>) -> Option<JsonTask<'a>> {
+    let task = match command {
+        "check" => JsonTask::Check,
+        "stat" => JsonTask::Stat,
+        "list" => JsonTask::List,
+        "types" => JsonTask::Types,
+        "show" => JsonTask::Show {
+            name: arguments.get_str("NAME"),
+        },
+        _ => return None,
+    };
+    if arguments.get_flag("json") {
+        Some(task)
+    } else {
+        None
+    }
+}
+
+/// The task of a command that prints no JSON, if it is one on an image alone, but for `map`.
+fn text_task_of<'a>(command: &str, arguments: &ArgMatches<'a>) -> Option<ImageTask<'a>> {
     match command {
         "check" => Some(ImageTask::Check),
         "stat" => Some(ImageTask::Stat {
@@ -72,13 +104,6 @@ fn task_of<'a>(command: &str, arguments: &ArgMatches<'a>) -> Option<ImageTask<'a
             name: arguments.get_str("NAME"),
             whole: arguments.get_flag("all"),
             typed: arguments.get_flag("types"),
-        }),
-        "map" => Some(match arguments.get_str("svg") {
-            Some(file) => ImageTask::Picture(Picture {
-                file,
-                forced: arguments.get_flag("force"),
-            }),
-            None => ImageTask::Map,
         }),
         "dump" => Some(ImageTask::Dump),
         "get" => Some(ImageTask::Get {
@@ -97,6 +122,22 @@ fn task_of<'a>(command: &str, arguments: &ArgMatches<'a>) -> Option<ImageTask<'a
         "shrink" => Some(ImageTask::Shrink),
         "upgrade" => Some(ImageTask::Upgrade),
         _ => None,
+    }
+}
+
+/// The task of `map`: lines, a picture or JSON.
+fn map_of<'a>(alloc: Global, arguments: &ArgMatches<'a>) -> Result<ImageTask<'a>, Misread> {
+    match (arguments.get_str("svg"), arguments.get_flag("json")) {
+        (Some(_), true) => Err(Misread::Words(format!(in alloc;
+            "error: the argument '--json' cannot be used with '--svg <FILE>'\n\n\
+For more information, try '--help'.\n"
+        )?)),
+        (Some(file), false) => Ok(ImageTask::Picture(Picture {
+            file,
+            forced: arguments.get_flag("force"),
+        })),
+        (None, true) => Ok(ImageTask::Json(JsonTask::Map)),
+        (None, false) => Ok(ImageTask::Map),
     }
 }
 

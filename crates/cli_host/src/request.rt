@@ -19,8 +19,8 @@ pub enum Request<'a> {
     Load(Load<'a>),
     Verify { image: &'a str, client: &'a str },
     Run(Run<'a>),
-    /// Run clients of which some are programs.
-    RunPrograms(Run<'a>),
+    /// Run clients of which some are programs or texts.
+    RunSources(Run<'a>),
     Trace(Trace<'a>),
     Assemble(Assembly<'a>),
     Compile(Compilation<'a>),
@@ -29,10 +29,29 @@ pub enum Request<'a> {
     Help(String),
 }
 
+/// What is printed of an image as JSON.
+#[derive(Clone, Copy)]
+pub enum JsonTask<'a> {
+    /// Whether it is sound.
+    Check,
+    /// All its numbers.
+    Stat,
+    /// Its objects, with their types.
+    List,
+    Types,
+    /// All its objects with their values, or those that a name or a pattern selects.
+    Show {
+        name: Option<&'a str>,
+    },
+    /// Its heap, block by block.
+    Map,
+}
+
 /// A task on an image.
 #[derive(Clone, Copy)]
 pub enum ImageTask<'a> {
     Check,
+    Json(JsonTask<'a>),
     /// Print its numbers; if `all`, further ones too.
     Stat {
         all: bool,

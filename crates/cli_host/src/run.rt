@@ -14,20 +14,30 @@ pub struct Run<'a> {
     pub room: Option<u32>,
     /// Whether `out` is overwritten even if it isn't an image.
     pub forced: bool,
+    /// Whether `out` stays as it is if the clients' output fails.
+    pub keeps_on_failure: bool,
 }
 
 /// The end of the name of a program's file.
 const PROGRAM: &[u8] = b".lez";
+
+/// The end of the name of an assembler text's file.
+const TEXT: &[u8] = b".text";
 
 /// Whether the file with this name is a program, in place of a client.
 pub fn is_program(name: &str) -> bool {
     name.as_bytes().ends_with(PROGRAM)
 }
 
-/// Whether one of the files with these names is a program.
-pub fn has_program(names: &[&str]) -> bool {
+/// Whether the file with this name is an assembler text, in place of a client. It may contain a client all the same.
+pub fn is_text(name: &str) -> bool {
+    name.as_bytes().ends_with(TEXT)
+}
+
+/// Whether one of the files with these names is a program or a text.
+pub fn has_source(names: &[&str]) -> bool {
     for name in names {
-        if is_program(name) {
+        if is_program(name) || is_text(name) {
             return true;
         }
     }
@@ -38,7 +48,7 @@ pub fn has_program(names: &[&str]) -> bool {
 pub const CLIENTS: Argument = Argument {
     id: "CLIENT",
     takes: Takes::Words,
-    help: "The files of the clients or programs (.lez), which run one after the other",
+    help: "The files of the clients, programs (.lez) or assembler texts (.text), which run one after the other",
 };
 
 /// The file that a client reads.
@@ -55,8 +65,15 @@ pub const FORCE: Argument = Argument {
     help: "Overwrite a file even if it isn't an image",
 };
 
+/// Keeps a file unless the whole run succeeds.
+const KEEP_ON_FAILURE: Argument = Argument {
+    id: "keep-on-failure",
+    takes: Takes::Flag,
+    help: "If the output fails, leave OUT as it is",
+};
+
 /// The arguments of a run.
-pub const RUN: [Argument; 7] = [
+pub const RUN: [Argument; 8] = [
     Argument {
         id: "IMAGE",
         takes: Takes::Word,
@@ -80,6 +97,7 @@ pub const RUN: [Argument; 7] = [
     },
     INPUT,
     FORCE,
+    KEEP_ON_FAILURE,
 ];
 
 /// The run in a command line with the arguments [`RUN`].
@@ -92,6 +110,7 @@ pub fn run_of<'a>(alloc: Global, arguments: &ArgMatches<'a>) -> Result<Run<'a>, 
         base: number(arguments, "base"),
         room: arguments.get_one("room"),
         forced: arguments.get_flag("force"),
+        keeps_on_failure: arguments.get_flag("keep-on-failure"),
     })
 }
 

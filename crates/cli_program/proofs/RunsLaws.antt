@@ -28,7 +28,7 @@ all_read run it before first second after image same texts none input =
 
 module _ (run : Run) (it : Read) (writes writes_then : Option (List Access)) (taken taken_then : Option (List ℕ)) where
   pub failed_save : (saved : List ℕ) (reports : List Report) (ended : Ended) (failed : Failure) → HasOutcome (job_of_run run it) (effect_at taken taken_then saved reports ended)
-      → IsUnsaved writes writes_then (access run.out.now saved) ended failed → HasFailedOf run it writes writes_then taken taken_then failed
+      → IsUnsaved writes writes_then (access run.out.now saved) ended run.keeps_on_failure failed → HasFailedOf run it writes writes_then taken taken_then failed
   failed_save saved reports ended (failure.Words text) outcome h = absurd h
   failed_save saved reports ended (failure.Program text) outcome h = absurd h
   failed_save saved reports ended (failure.Absent name) outcome h = absurd h

@@ -2,7 +2,7 @@
 --     out_of_memory                no memory was left
 --     failure_of failure           a failed file, as the failure of a command
 --     IsUnsaved ..                 why an image wasn't saved, or that the output had failed
-use Rattle.std.specs.Prelude.{◌≡◌, ◌⊎◌, List, [], ◌∷◌, Option, None}
+use Rattle.std.specs.Prelude.{◌≡◌, ◌⊎◌, Bool, false, List, [], ◌∷◌, Option, None}
 use Rattle.seg_raw.specs.declared.fault.Fault.TheVariants.{Memory}
 use Rattle.client_verify.specs.declared.refused.Refused.{Refused}
 use Rattle.client_vm.specs.declared.report.Ended.{Ended}
@@ -20,15 +20,15 @@ abbrev pub failure_of : FileFailure → Failure
 failure_of file_failure.Memory = failure.Refused out_of_memory
 failure_of (file_failure.File name problem) = failure.File name problem
 
--- nothing was written, unless it is the output that failed
-abbrev pub IsUnsaved : Option (List Access) → Option (List Access) → Access → Ended → Failure →
-    Type 0
-IsUnsaved before after saved ended (failure.Words text) = ⊥
-IsUnsaved before after saved ended (failure.Program text) = ⊥
-IsUnsaved before after saved ended (failure.Absent name) = ⊥
-IsUnsaved before after saved ended (failure.Full name) = ⊥
-IsUnsaved before after saved ended (failure.Refused refused) =
+-- nothing was written, unless it is the output that failed, and the file isn't kept then
+abbrev pub IsUnsaved : Option (List Access) → Option (List Access) → Access → Ended → Bool →
+    Failure → Type 0
+IsUnsaved before after saved ended keeps (failure.Words text) = ⊥
+IsUnsaved before after saved ended keeps (failure.Program text) = ⊥
+IsUnsaved before after saved ended keeps (failure.Absent name) = ⊥
+IsUnsaved before after saved ended keeps (failure.Full name) = ⊥
+IsUnsaved before after saved ended keeps (failure.Refused refused) =
     (after ≡ before) × (refused ≡ out_of_memory)
-IsUnsaved before after saved ended (failure.File name problem) = after ≡ before
-IsUnsaved before after saved ended failure.Output =
-    (ended ≡ OutputFailed) × ((after ≡ before) ⊎ AddsAccesses before after (saved ∷ []))
+IsUnsaved before after saved ended keeps (failure.File name problem) = after ≡ before
+IsUnsaved before after saved ended keeps failure.Output = (ended ≡ OutputFailed) ×
+    ((after ≡ before) ⊎ ((keeps ≡ false) × AddsAccesses before after (saved ∷ [])))

@@ -11,7 +11,7 @@
 --     HasSavedOf run it ..           clients with these bytes ran to their end, and the saved image
 --                                    was written
 --     HasFailedOf run it ..          why such a run failed, and what it wrote
-use Rattle.std.specs.Prelude.{◌≡◌, ◌⊎◌, ℕ, ◌+◌, ◌-◌, ◌^◌, min, List, [], ◌∷◌, ◌++◌, length, map, Option, Some, None, IfNone, unwrap_or}
+use Rattle.std.specs.Prelude.{◌≡◌, ◌⊎◌, false, ℕ, ◌+◌, ◌-◌, ◌^◌, min, List, [], ◌∷◌, ◌++◌, length, map, Option, Some, None, IfNone, unwrap_or}
 use Rattle.std.proofs.Common.{Bor}
 use Rattle.client_vm.specs.declared.report.Report.{Report}
 use Rattle.client_vm.specs.declared.report.Ended.{Ended}
@@ -71,14 +71,14 @@ module _ (run : Run) (it : Read) (writes writes_then : Option (List Access)) whe
     pub outcome : HasOutcome (job_of_run run it) (effect_at taken taken_then saved reports Done)
     pub was_saved : AddsAccesses writes writes_then (access run.out.now saved ∷ [])
 
-  -- the output failed; the saved image was written, unless its file failed too
+  -- the output failed; the saved image was written, unless the file is kept then or failed too
   pub record OutputFailsOf (taken taken_then : Option (List ℕ)) : Type 0 where
     pub saved : List ℕ
     pub reports : List Report
     pub outcome : HasOutcome (job_of_run run it)
         (effect_at taken taken_then saved reports OutputFailed)
-    pub was_saved : (writes_then ≡ writes)
-        ⊎ AddsAccesses writes writes_then (access run.out.now saved ∷ [])
+    pub was_saved : (writes_then ≡ writes) ⊎ ((run.keeps_on_failure ≡ false)
+        × AddsAccesses writes writes_then (access run.out.now saved ∷ []))
 
   abbrev pub HasFailedOf : Option (List ℕ) → Option (List ℕ) → Failure → Type 0
   HasFailedOf taken taken_then (failure.Words text) = ⊥
@@ -116,11 +116,12 @@ module _ (run : Run) (reads reads_then : Option (List Access)) where
       pub has_run : HasRunFiles taken taken_then saved Done
       pub was_saved : WasSaved saved
 
-    -- the output failed; the saved image was written, unless its file failed too
+    -- the output failed; the saved image was written, unless the file is kept then or failed too
     pub record OutputFails (taken taken_then : Option (List ℕ)) : Type 0 where
       pub saved : List ℕ
       pub has_run : HasRunFiles taken taken_then saved OutputFailed
-      pub was_saved : (writes_then ≡ writes) ⊎ WasSaved saved
+      pub was_saved : (writes_then ≡ writes)
+          ⊎ ((run.keeps_on_failure ≡ false) × WasSaved saved)
 
     abbrev pub HasFailed : Option (List ℕ) → Option (List ℕ) → Failure → Type 0
     HasFailed taken taken_then (failure.Words text) = ⊥

@@ -10,8 +10,8 @@ use cli_host::{Files, Run};
 use client_vm::{Outcome, Refused, Schedule, Sink, run_image};
 use std::alloc::Global;
 
-/// `run IMAGE OUT CLIENT.. [--base N] [--room N] [--input FILE]`: runs the clients, and writes the saved image, even if their
-/// output failed.
+/// `run IMAGE OUT CLIENT.. [--base N] [--room N] [--input FILE] [--keep-on-failure]`: runs the clients, and writes the saved image,
+/// also if their output failed, unless the file is kept then.
 pub fn run_files<'a, F: Files, O: Sink>(
     alloc: Global,
     run: &Run<'a>,
@@ -28,7 +28,7 @@ pub fn run_files<'a, F: Files, O: Sink>(
     run_inputs(alloc, run, inputs, files, out)
 }
 
-/// Runs clients whose bytes are given, and writes the saved image, even if their output failed.
+/// Runs clients whose bytes are given, and writes the saved image, also if their output failed, unless the file is kept then.
 pub fn run_inputs<'a, F: Files, O: Sink>(
     alloc: Global,
     run: &Run<'a>,
@@ -45,7 +45,13 @@ pub fn run_inputs<'a, F: Files, O: Sink>(
     ensures nothing_read { F.was_read files.new ≡ F.was_read files.old }
 {
     let outcome = outcome_of(alloc, run, inputs, out)?;
-    save(files, run.out, outcome.image.as_slice(), outcome.ended)
+    save(
+        files,
+        run.out,
+        outcome.image.as_slice(),
+        outcome.ended,
+        run.keeps_on_failure,
+    )
 }
 
 /// Runs the clients on an image.

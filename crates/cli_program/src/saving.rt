@@ -6,23 +6,27 @@ use crate::failure::Failure;
 use cli_host::{Files, write_file};
 use client_vm::Ended;
 
-/// Writes the saved image, even if the clients' output failed; then that is the failure.
+/// Writes the saved image, also if the clients' output failed, unless the file is kept then; that is the failure then.
 pub fn save<'a, F: Files>(
     files: &mut F,
     name: &'a str,
     image: &[u8],
     ended: Ended,
+    keeps_on_failure: bool,
 ) -> Result<(), Failure<'a>>
     ensures done { OnOk result (ended ≡ Ended.Done) }
     ensures saved { OnOk result (AddsAccesses (F.was_written files.old) (F.was_written files.new)
         (access name.now image.now ∷ [])) }
     ensures unsaved { IfErr result (IsUnsaved (F.was_written files.old) (F.was_written files.new)
-        (access name.now image.now) ended) }
+        (access name.now image.now) ended keeps_on_failure) }
     ensures nothing_read { F.was_read files.new ≡ F.was_read files.old }
 {
-    let saved = write_file(files, name, image);
     match ended {
-        Ended::Done => Ok(saved?),
-        Ended::OutputFailed => Err(Failure::Output),
+        Ended::Done => Ok(write_file(files, name, image)?),
+        Ended::OutputFailed if keeps_on_failure => Err(Failure::Output),
+        Ended::OutputFailed => {
+            let _ = write_file(files, name, image);
+            Err(Failure::Output)
+        }
     }
 }

@@ -1,29 +1,38 @@
-//! Shows the contents of a segment: its objects with their values, and its heap block by block, as text and as a picture.
+//! Shows the contents of a segment: its objects with their values, and its heap block by block, as text, as JSON and as a picture.
 #![tactic(auto)]
 
 mod blocks;
+mod blocks_json;
 mod comparing;
 mod contents;
-mod detailing;
+mod document;
 mod drawing;
 mod dumping;
 mod extent;
 mod lines;
 mod listing;
 mod objects;
+mod objects_json;
 mod owners;
 mod parts;
 mod pattern;
 mod purpose;
+mod reached;
 mod roots;
+mod selection;
+mod statistics;
 mod types;
+mod types_json;
 mod walk;
 
+pub use blocks_json::heap_json;
 pub use comparing::difference;
-pub use detailing::details;
 pub use drawing::picture;
 pub use dumping::dump;
 pub use extent::{Detail, Extent};
 pub use listing::heap_lines;
-pub use objects::{all_objects, some_objects, value_lines};
+pub use objects::{objects_text, value_lines};
+pub use objects_json::{list_json, objects_json};
+pub use statistics::{Statistic, details, soundness_json, statistic_lines, statistics_json};
 pub use types::{kind_word, type_lines, type_words};
+pub use types_json::types_json;

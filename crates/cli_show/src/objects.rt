@@ -3,56 +3,36 @@
 use crate::extent::{Detail, Extent};
 use crate::lines::IndentedText;
 use crate::parts::Selector;
+use crate::reached::Reached;
 use crate::roots::{Root, RootName, frozen_number, roots};
+use crate::selection::Selection;
 use crate::types::add_type;
 use crate::walk::{Met, ValueWalk, most_turns};
-use seg_block::{Fit, UNIT};
+use seg_block::Fit;
 use seg_manager::{Heap, Place, Segment, Type, TypeId, frozen};
 use std::alloc::{AllocError, Global};
 
-/// All objects: the named ones in ascending order of their names, the unique ones in order of type, and the frozen ones in
-/// descending order of their numbers.
-pub fn all_objects<F: Fit>(
+/// The objects that a name or a pattern selects, or all objects, and each frozen object that a shown cell points to: the named
+/// ones in ascending order of their names, the unique ones in order of type, and the frozen ones in descending order of their
+/// numbers. `None` if nothing is selected.
+pub fn objects_text<F: Fit>(
     alloc: Global,
     segment: &Segment<F, Global>,
-    detail: Detail,
-) -> Result<Vec<u8>, AllocError> {
-    let roots = roots(alloc, segment)?;
-    let mut shown = Shown::new(alloc, segment.heap(), detail, roots.as_slice())?;
-    for root in &roots {
-        shown.add_object(root)?;
-    }
-    shown.lines.into_bytes()
-}
-
-/// The object with a name, or if it doesn't exist, those whose names are like it as a pattern; and each frozen object that a shown
-/// cell points to. `None` if there is no such object.
-pub fn some_objects<F: Fit>(
-    alloc: Global,
-    segment: &Segment<F, Global>,
-    name: &[u8],
+    name: Option<&[u8]>,
     detail: Detail,
 ) -> Result<Option<Vec<u8>>, AllocError> {
     let roots = roots(alloc, segment)?;
+    let selection = Selection::of(name, roots.as_slice());
     let mut shown = Shown::new(alloc, segment.heap(), detail, roots.as_slice())?;
-    let is_exact = roots.iter().any(|root| root.is_named(name));
-    let mut found = false;
+    let mut found = selection.is_all();
     for root in &roots {
-        if is_wanted(root, name, is_exact) || shown.names(root.first.at) {
+        if selection.has(root) || shown.reached.has(root.first.at) {
             shown.add_object(root)?;
             found = true;
         }
     }
     let lines = shown.lines.into_bytes()?;
     Ok(found.then_some(lines))
-}
-
-fn is_wanted(root: &Root, name: &[u8], is_exact: bool) -> bool {
-    if is_exact {
-        root.is_named(name)
-    } else {
-        root.is_like(name)
-    }
 }
 
 /// A value: a number, a text as a client's text spells it, or the lines that show another value.
@@ -97,9 +77,7 @@ struct Shown<'h, F: Fit> {
     heap: &'h Heap<F, Global>,
     detail: Detail,
     lines: IndentedText,
-    /// For each unit of the segment, whether a cell in these lines points to the frozen object whose value begins in it. Empty if
-    /// no object is frozen.
-    named: Vec<bool>,
+    reached: Reached,
 }
 
 impl<'h, F: Fit> Shown<'h, F> {
@@ -109,22 +87,12 @@ impl<'h, F: Fit> Shown<'h, F> {
         detail: Detail,
         roots: &[Root],
     ) -> Result<Shown<'h, F>, AllocError> {
-        let units = if roots.iter().any(|root| root.is_frozen()) {
-            heap.window().len() / UNIT
-        } else {
-            0
-        };
         Ok(Shown {
             heap,
             detail,
             lines: IndentedText::new(alloc),
-            named: Vec::from_elem(alloc, false, units as usize)?,
+            reached: Reached::new(alloc, heap, roots)?,
         })
-    }
-
-    /// Whether a cell in the lines points to the frozen object with its value at this position.
-    fn names(&self, value: u32) -> bool {
-        matches!(self.named.get((value / UNIT) as usize), Some(true))
     }
 
     /// Adds an object, with its values and all values inside them.
@@ -176,7 +144,7 @@ impl<'h, F: Fit> Shown<'h, F> {
                     add_step(&mut self.lines, part.step);
                     self.end_line(part.place);
                 }
-                Met::End { level, rest } => add_rest(&mut self.lines, level, rest),
+                Met::End { level, rest, .. } => add_rest(&mut self.lines, level, rest),
             }
         }
         Ok(())
@@ -221,9 +189,7 @@ impl<'h, F: Fit> Shown<'h, F> {
     fn add_shared(&mut self, cell: Place) {
         match frozen(self.heap, cell) {
             Some(value) => {
-                if let Some(named) = self.named.get_mut((value / UNIT) as usize) {
-                    *named = true;
-                }
+                self.reached.add(value);
                 let number = frozen_number(self.heap.window(), value);
                 self.lines.add_number("frozen ", i64::from(number));
             }

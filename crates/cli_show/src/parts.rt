@@ -57,6 +57,11 @@ impl Parts {
         }
     }
 
+    /// The value that they are parts of.
+    pub(crate) fn whole(&self) -> Place {
+        self.whole
+    }
+
     pub(crate) fn came(&self) -> u32 {
         self.came
     }

@@ -9,8 +9,12 @@ use std::alloc::{AllocError, Global};
 pub(crate) enum Met {
     /// A value inside it, at this level, counted from 1.
     Part { level: usize, part: ValuePart },
-    /// The end of the parts at this level; `rest` is how many of them the walk skipped.
-    End { level: usize, rest: u32 },
+    /// The end of a value whose parts are at this level; `rest` is how many of them the walk skipped.
+    End {
+        whole: Place,
+        level: usize,
+        rest: u32,
+    },
 }
 
 /// A walk through all values inside a value, each before the values inside it. It needs host memory for the values on its path,
@@ -45,12 +49,17 @@ impl ValueWalk {
         };
         if parts.came() >= self.extent.parts() || level > self.extent.level() {
             return Ok(Some(Met::End {
+                whole: parts.whole(),
                 level,
                 rest: parts.left(),
             }));
         }
         let Some(part) = parts.next(heap) else {
-            return Ok(Some(Met::End { level, rest: 0 }));
+            return Ok(Some(Met::End {
+                whole: parts.whole(),
+                level,
+                rest: 0,
+            }));
         };
         self.open.push(parts)?;
         self.open.push(Parts::of(heap, part.place))?;

@@ -27,7 +27,7 @@ returns-clause-failed g c =
     let writes_then = g.F.Files.was_written c.save.new.files in
     let taken = g.O.Sink.taken c.args.out.now in
     let taken_then = g.O.Sink.taken c.outcome_of.new.out in
-    IfErr-weaker c.save.result (IsUnsaved writes writes_then (access run.out.now c.as_slice.result.now) o.ended) (HasFailedOf run it writes writes_then taken taken_then)
+    IfErr-weaker c.save.result (IsUnsaved writes writes_then (access run.out.now c.as_slice.result.now) o.ended run.keeps_on_failure) (HasFailedOf run it writes writes_then taken taken_then)
     (λ failed h. failed_save run it writes writes_then taken taken_then o.image.items o.reports.items o.ended failed c.in_ok-outcome.ensures.outcome
-    (subst (λ (i : List ℕ). IsUnsaved writes writes_then (access run.out.now i) o.ended failed) c.as_slice.ensures.value h))
+    (subst (λ (i : List ℕ). IsUnsaved writes writes_then (access run.out.now i) o.ended run.keeps_on_failure failed) c.as_slice.ensures.value h))
     c.save.ensures.unsaved
