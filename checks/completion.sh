@@ -40,7 +40,7 @@ completes "best seq" segtool new some.image 4096 ""
 completes "flat tree" segtool new --force some.image 4096 best ""
 completes "" segtool new some.image 40
 completes "--force" segtool new --f
-completes "--base --explain --force --help --input --room" segtool run counter.image --
+completes "--base --explain --force --help --input --keep-on-failure --room" segtool run counter.image --
 completes "" segtool run --base 1
 completes "--help --version" segtool --
 completes "count.lez count.text counter.image" segtool run coun

@@ -108,8 +108,7 @@ impl<'a> Read<'a> {
     fn translate(&mut self, alloc: Global) {
         let names = self.names.as_slice();
         if let (Some(image), true) = (&self.image, has_source(names)) {
-            let clients =
-                translated_again(alloc, names, self.sources.as_slice(), image.as_slice());
+            let clients = translated_again(alloc, names, self.sources.as_slice(), image.as_slice());
             self.translated = Some(clients);
         }
     }

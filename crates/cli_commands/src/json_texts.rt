@@ -3,9 +3,7 @@
 use crate::listing::all_statistics;
 use crate::made::Unmade;
 use cli_host::JsonTask;
-use cli_show::{
-    heap_json, list_json, objects_json, soundness_json, statistics_json, types_json,
-};
+use cli_show::{heap_json, list_json, objects_json, soundness_json, statistics_json, types_json};
 use lezgauri::{Fault, Image, ImageRead};
 use std::alloc::{AllocError, Global};
 

@@ -135,10 +135,12 @@ impl Translated {
 /// A failure of the client with this number.
 fn numbered<'a>(failure: Failure<'a>, number: usize) -> Failure<'a> {
     match failure {
-        Failure::Refused(Refused {
-            fault: Fault::BadLine(line),
-            ..
-        }) => Failure::from(Refused {
+        Failure::Refused(
+            Refused {
+                fault: Fault::BadLine(line),
+                ..
+            },
+        ) => Failure::from(Refused {
             client: Some(number),
             fault: Fault::BadLine(line),
         }),

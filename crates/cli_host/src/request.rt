@@ -40,9 +40,7 @@ pub enum JsonTask<'a> {
     List,
     Types,
     /// All its objects with their values, or those that a name or a pattern selects.
-    Show {
-        name: Option<&'a str>,
-    },
+    Show { name: Option<&'a str> },
     /// Its heap, block by block.
     Map,
 }

@@ -1,13 +1,13 @@
 //! The objects of a segment as JSON.
 
 use crate::document::Document;
+use crate::extent::Extent;
 use crate::objects::text_of;
 use crate::parts::Selector;
 use crate::reached::Reached;
 use crate::roots::{Root, RootName, frozen_number, roots};
 use crate::selection::Selection;
 use crate::walk::{Met, ValueWalk, most_turns};
-use crate::extent::Extent;
 use seg_block::Fit;
 use seg_manager::{Heap, Place, Segment, Type, frozen};
 use std::alloc::{AllocError, Global};

@@ -8,7 +8,10 @@ use std::alloc::{AllocError, Global};
 #[derive(Clone, Copy)]
 pub(crate) enum Met {
     /// A value inside it, at this level, counted from 1.
-    Part { level: usize, part: ValuePart },
+    Part {
+        level: usize,
+        part: ValuePart,
+    },
     /// The end of a value whose parts are at this level; `rest` is how many of them the walk skipped.
     End {
         whole: Place,

@@ -313,6 +313,14 @@ impl Code {
         self.usage.free(other);
     }
 
+    /// Subtracts 1 from the number in a register if it is this one.
+    pub fn decrement_if(&mut self, register: Register, number: i64) {
+        let is_equal = self.literal(number);
+        self.compute(Operation::Equal, is_equal, register, is_equal);
+        self.compute(Operation::Sub, register, register, is_equal);
+        self.usage.free(is_equal);
+    }
+
     /// The constant with this kind and these bytes.
     pub fn constant(&mut self, kind: ConstantKind, bytes: &[u8]) -> ConstantAt {
         self.constants.intern(kind, bytes, &mut self.trouble)

@@ -272,14 +272,16 @@ impl Compiler {
         self.end_scope(names)
     }
 
-    /// Ends a name for the statements that may be done after those of the innermost nest.
+    /// Ends a name for the statements that may be done after the innermost nest.
     fn end_kept(&mut self, name: Span, removed: Span) {
         for level in (1..self.nests.len()).rev() {
-            let Some(Nest {
-                kind: NestKind::Deferred(at),
-                mark,
-                ..
-            }) = self.nests.get(level).copied()
+            let Some(
+                Nest {
+                    kind: NestKind::Deferred(at),
+                    mark,
+                    ..
+                },
+            ) = self.nests.get(level).copied()
             else {
                 return;
             };

@@ -353,14 +353,9 @@ impl Emitter {
     }
 
     /// In the else part of the lookup of an array's value, before which the array was made: if it
-    /// isn't there, memory ran out. The register's code becomes that of the instruction which makes
-    /// the array.
+    /// isn't there, memory ran out, and the register gets this code.
     pub fn tell_no_room(&mut self, code: Register) {
-        let is_absent = self.code.literal(ABSENT);
-        self.code
-            .compute(Operation::Equal, is_absent, code, is_absent);
-        self.code.compute(Operation::Sub, code, code, is_absent);
-        self.code.usage.free(is_absent);
+        self.code.decrement_if(code, ABSENT)
     }
 
     fn release_walk(&mut self, walk: &Walk) {
