@@ -32,7 +32,7 @@ pub(crate) fn all_statistics(
         Image::Seq(segment) => details(alloc, segment, version)?,
         Image::Best(segment) => details(alloc, segment, version)?,
     };
-    all.extend_from_slice(&further)?;
+    all.extend_from_slice(further.as_slice())?;
     Ok(all)
 }
 

@@ -2,17 +2,18 @@
 #![tactic(auto)]
 
 mod blocks;
-mod blocks_json;
 mod comparing;
 mod contents;
 mod document;
 mod drawing;
 mod dumping;
 mod extent;
+mod json_blocks;
+mod json_objects;
+mod json_types;
 mod lines;
 mod listing;
 mod objects;
-mod objects_json;
 mod owners;
 mod parts;
 mod pattern;
@@ -22,17 +23,16 @@ mod roots;
 mod selection;
 mod statistics;
 mod types;
-mod types_json;
 mod walk;
 
-pub use blocks_json::heap_json;
 pub use comparing::difference;
 pub use drawing::picture;
 pub use dumping::dump;
 pub use extent::{Detail, Extent};
+pub use json_blocks::heap_json;
+pub use json_objects::{list_json, objects_json};
+pub use json_types::types_json;
 pub use listing::heap_lines;
 pub use objects::{objects_text, value_lines};
-pub use objects_json::{list_json, objects_json};
 pub use statistics::{Statistic, details, soundness_json, statistic_lines, statistics_json};
 pub use types::{kind_word, type_lines, type_words};
-pub use types_json::types_json;

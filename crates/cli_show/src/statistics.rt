@@ -110,11 +110,11 @@ pub fn details<F: Fit>(
     alloc: Global,
     segment: &Segment<F, Global>,
     version: u32,
-) -> Result<[Statistic; 7], AllocError> {
+) -> Result<Vec<Statistic>, AllocError> {
     let w = segment.window();
     let counts = block_counts(alloc, w)?;
     let types = u32::try_from(segment.types().len()).unwrap_or(u32::MAX);
-    Ok([
+    let statistics = [
         Statistic::number("version", version),
         Statistic::word("allocator", allocator_word(w)),
         Statistic::word("index", index_word(w)),
@@ -122,7 +122,8 @@ pub fn details<F: Fit>(
         Statistic::number("blocks", counts.allocated),
         Statistic::number("gaps", counts.gaps),
         Statistic::percent("fragmentation", fragmentation(counts)),
-    ])
+    ];
+    Vec::from_slice(alloc, &statistics)
 }
 
 /// How many percent of the free memory aren't in the largest gap.

@@ -32,7 +32,7 @@ pub(crate) fn add_types(lines: &mut IndentedText, types: &TypeTable) {
 }
 
 /// The word for a type in a client's text, if the table has it.
-fn word_of(types: &TypeTable, t: TypeId) -> Option<&'static str> {
+pub(crate) fn word_of(types: &TypeTable, t: TypeId) -> Option<&'static str> {
     match types.kind(t) {
         Some(kind) => Some(kind_word(kind)),
         None => None,

@@ -478,7 +478,8 @@ impl Code {
         if let Some(target) = target {
             self.set(target, Known::Number);
         }
-        self.show_ended(first, self.ended.len(), false);
+        let end = self.ended.len();
+        self.show_ended(first, end, false);
     }
 
     /// Whether the names from `first` to before `end` count as ended in what is written next.
@@ -516,7 +517,8 @@ impl Code {
         }
         self.stamp = self.stamp.saturating_add(1);
         self.registers = success.merge(&self.registers, self.stamp);
-        self.show_ended(part.first_ended, self.ended.len(), true);
+        let end = self.ended.len();
+        self.show_ended(part.first_ended, end, true);
         self.emit(Operation::End, [0, 0, 0], Operand::Plain(0))
     }
 

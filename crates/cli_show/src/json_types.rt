@@ -1,7 +1,7 @@
 //! Types as JSON.
 
 use crate::document::Document;
-use crate::types::kind_word;
+use crate::types::word_of;
 use seg_manager::{MAX_TYPES, Type, TypeId, TypeTable};
 use std::alloc::{AllocError, Global};
 
@@ -10,25 +10,27 @@ pub fn types_json(alloc: Global, types: &TypeTable) -> Result<Vec<u8>, AllocErro
     let mut json = Document::new(alloc);
     json.begin_list("types");
     for t in 0..MAX_TYPES as TypeId {
-        if let Some(kind) = types.kind(t) {
-            add_type(&mut json, kind);
+        if let Some(word) = word_of(types, t) {
+            json.begin_object();
+            json.add_word("kind", word);
+            add_parts(&mut json, types, t);
+            json.end_object();
         }
     }
     json.end_array();
     json.into_line()
 }
 
-fn add_type(json: &mut Document, kind: Type) {
-    json.begin_object();
-    json.add_word("kind", kind_word(kind));
+/// Adds the numbers of a type's parts.
+fn add_parts(json: &mut Document, types: &TypeTable, t: TypeId) {
     json.begin_list("parts");
-    add_parts(json, kind);
-    json.end_array();
-    json.end_object()
+    if let Some(kind) = types.kind(t) {
+        add_numbers(json, kind);
+    }
+    json.end_array()
 }
 
-/// Adds the numbers of a type's parts.
-fn add_parts(json: &mut Document, kind: Type) {
+fn add_numbers(json: &mut Document, kind: Type) {
     match kind {
         Type::I64 | Type::Str => {}
         Type::Vec(part) => json.number(i64::from(part)),

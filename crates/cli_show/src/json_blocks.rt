@@ -1,8 +1,8 @@
 //! The heap block by block, as JSON.
 
 use crate::document::Document;
+use crate::json_objects::add_name;
 use crate::listing::root_of;
-use crate::objects_json::add_name;
 use crate::owners::{OwnedBlock, owned_blocks};
 use crate::purpose::Purpose;
 use crate::roots::{Root, roots};
