@@ -100,6 +100,7 @@ check python checks/python.sh
 check install checks/install.sh
 check completion checks/completion.sh
 check printed checks/printed.py crates/segtool/out/segtool
+check terminal checks/terminal.py crates/segtool/out/segtool
 check changing checks/changing.py
 check texts checks/texts.py
 check english checks/english.py

@@ -1,6 +1,7 @@
 //! The command that runs clients, and what all commands share: the host's arguments, the files of a run, failures, and printing.
 #![tactic(auto)]
 
+mod colours;
 mod failure;
 mod host;
 mod inputs;
@@ -9,6 +10,7 @@ mod run;
 mod saving;
 
 pub use client_vm::Through;
+pub use colours::{Coloured, wants_colours};
 pub use failure::Failure;
 pub use host::{refuse, words};
 pub use inputs::{Inputs, read_input, read_inputs, slices};

@@ -4,12 +4,15 @@
 
 use cli_commands::command;
 use cli_host::HostFiles;
-use cli_program::{Through, refuse, words};
+use cli_program::{Coloured, Through, refuse, wants_colours, words};
+use std::io::IsTerminal;
 use std::process::ExitCode;
 
 fn main(rt: HostRuntime) -> ExitCode {
     let mut out = Through::new(rt.stdout());
-    let mut err = Through::new(rt.stderr());
+    let stderr = rt.stderr();
+    let is_coloured = stderr.is_terminal() && wants_colours(&rt);
+    let mut err = Through::new(Coloured::new(rt.alloc(), stderr, is_coloured));
     let mut files = HostFiles::new(&rt);
     let status = match words(&rt) {
         Ok(words) => command(rt.alloc(), words.as_slice(), &mut files, &mut out, &mut err),

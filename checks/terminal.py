@@ -1,0 +1,89 @@
+#!/usr/bin/env python3
+"""Tests the colours of reports: only on a terminal, and only if the user wants them.
+
+    terminal.py SEGTOOL
+
+Compiles a program with an error and a warning, with the error output on a pseudo-terminal or in a pipe, and compares
+what is written with a text in which the colours are marked."""
+import os
+import pty
+import subprocess
+import sys
+import tempfile
+from pathlib import Path
+
+PROGRAM = """object x: int
+let unused = 1
+x = y
+"""
+
+# <..> is red, (..) yellow and [..] cyan. The carets of a warning are red too.
+REPORT = """wrong.lez:3:5: <error:> there is no `y` here
+x = y
+    <^>
+"""
+
+WRONG_WORDS = "<error:> unrecognized subcommand 'chek'\n"
+
+COLOURS = {"<": "\x1b[1;31m", "(": "\x1b[1;33m", "[": "\x1b[1;36m", ">": "\x1b[0m", ")": "\x1b[0m", "]": "\x1b[0m"}
+
+
+def shown(text, is_coloured):
+    """A text with its colours, or without them."""
+    return "".join((colour if is_coloured else "") if (colour := COLOURS.get(letter)) else letter for letter in text)
+
+
+def on_terminal(words, folder, env):
+    """What a command writes to its error output, if that is a terminal."""
+    ours, theirs = pty.openpty()
+    try:
+        ran = subprocess.Popen(words, cwd=folder, env=env, stdout=subprocess.DEVNULL, stderr=theirs)
+        os.close(theirs)
+        written = b""
+        while True:
+            try:
+                part = os.read(ours, 4096)
+            except OSError:
+                break
+            if not part:
+                break
+            written += part
+        ran.wait()
+    finally:
+        os.close(ours)
+    return written.decode().replace("\r\n", "\n")
+
+
+def in_pipe(words, folder, env):
+    """What a command writes to its error output, if that is a pipe."""
+    return subprocess.run(words, cwd=folder, env=env, stdout=subprocess.DEVNULL, stderr=subprocess.PIPE, text=True, check=False).stderr
+
+
+def main():
+    if len(sys.argv) != 2 or not os.access(sys.argv[1], os.X_OK):
+        raise SystemExit(__doc__)
+    segtool = os.path.abspath(sys.argv[1])
+    plain = {"PATH": os.environ["PATH"], "TERM": "xterm"}
+    cases = [
+        (on_terminal, plain, True),
+        (on_terminal, {**plain, "NO_COLOR": ""}, True),
+        (on_terminal, {**plain, "NO_COLOR": "1"}, False),
+        (on_terminal, {**plain, "TERM": "dumb"}, False),
+        (on_terminal, {"PATH": plain["PATH"]}, False),
+        (in_pipe, plain, False),
+    ]
+    wrong = 0
+    with tempfile.TemporaryDirectory() as folder:
+        Path(folder, "wrong.lez").write_text(PROGRAM, encoding="ascii")
+        for run, env, is_coloured in cases:
+            for words, report in (["compile", "wrong.lez", "out"], REPORT), (["chek"], WRONG_WORDS):
+                written = run([segtool, *words], folder, env)
+                if not written.startswith(shown(report, is_coloured)):
+                    wrong += 1
+                    print(f"{run.__name__} {env} {words}: {written!r}")
+    print(f"{2 * len(cases)} reports, {wrong} wrong")
+    return 1 if wrong else 0
+
+
+if __name__ == "__main__":
+    sys.exit(main())
