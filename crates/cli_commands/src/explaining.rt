@@ -246,7 +246,7 @@ fn failed_output(alloc: Global, request: &Request) -> Result<Vec<u8>, AllocError
         Request::Run(run) | Request::RunSources(run) if run.keeps_on_failure => {
             let out = run.out;
             let words = format!(in alloc;
-                "the output couldn't be written, and the run ended there; `{out}` stays as it was\n"
+                "the output couldn't be written, and the run ended there; `{out}` is unchanged\n"
             )?;
             Ok(words.into_bytes())
         }
