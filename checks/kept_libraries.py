@@ -40,6 +40,9 @@ def main():
         print(__doc__, file=sys.stderr)
         return 2
     rt, root = load_rt(), os.getcwd()
+    if not hasattr(rt, "Kept"):
+        print("this release of rt keeps nothing between runs", file=sys.stderr)
+        return 1
     rt.Crate.allowed = rt.handles_of(root)
     crates = rt.crates_of(root)
     top = next(crate for crate in crates if crate.name == sys.argv[1])
