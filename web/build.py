@@ -25,8 +25,6 @@ MODULE = "lezgauri_web"
 HOST = "web_host"
 # The crates that take their memory from the C library, and so are changed in the copies.
 PRINTING = ("cli_show", "cli_explain", "client_trace")
-# A file of a crate that has no place in the module as a whole.
-LISTING = "cli_commands/src/listing.rt"
 USED = ("lezgauri", "client_vm", *PRINTING)
 EXAMPLES = ("counter.image", "cache.text", "configure.text", "count.text", "increment.text", "notice.text", "publish.text",
             "settings.text")
@@ -40,7 +38,7 @@ def with_page_memory(text):
     for line in text.split("\n"):
         if not line.lstrip().startswith(("//", "ghost ", "use ")):
             line = re.sub(r"\bGlobal\b", "HostHeap", line)
-            line = re.sub(r"\bString\b(?!::|<)", "String<HostHeap>", line)
+            line = re.sub(r"\b(String|Writer)\b(?!::|<)", r"\1<HostHeap>", line)
             line = with_allocator(line)
         lines.append(line)
     text = "\n".join(lines)
@@ -50,9 +48,9 @@ def with_page_memory(text):
 
 
 def with_allocator(line):
-    """A line in which each `Vec` also names the page's memory."""
+    """A line in which each `Vec` and each `VecDeque` also names the page's memory."""
     at = 0
-    while found := re.compile(r"\bVec<").search(line, at):
+    while found := re.compile(r"\bVec(?:Deque)?<").search(line, at):
         end, depth = found.end(), 1
         while depth:
             depth += {"<": 1, ">": -1}.get(line[end], 0)
@@ -108,8 +106,6 @@ def lay(folder, proved):
         rows.append(f"{crates[name][1]} {HOST}" if name in PRINTING else crates[name][1])
     for name in (HOST, MODULE):
         lay_module(crates_folder, name)
-    listing = (ROOT / "crates" / LISTING).read_text(encoding="utf-8")
-    write(crates_folder / MODULE / "src" / "listing.rt", with_page_memory(listing))
     rows += [f"{HOST}: libc", f"{MODULE} wasm64: {HOST} {' '.join(USED)}"]
     write(folder / "crates.txt", "".join(f"{row}\n" for row in rows))
     (folder / ".git").mkdir(exist_ok=True)
