@@ -3,8 +3,8 @@
 
     terminal.py SEGTOOL
 
-Compiles a program with an error and a warning, with the error output on a pseudo-terminal or in a pipe, and compares
-what is written with a text in which the colours are marked."""
+Compiles a program with an error and one with a warning, with the error output on a pseudo-terminal or in a pipe, and
+compares what is written with a text in which the colours are marked."""
 import os
 import pty
 import subprocess
@@ -12,18 +12,33 @@ import sys
 import tempfile
 from pathlib import Path
 
-PROGRAM = """object x: int
+WRONG = """object x: int
 let unused = 1
 x = y
 """
 
+WARNED = "let unused = 1\n"
+
 # <..> is red, (..) yellow and [..] cyan. The carets of a warning are red too.
-REPORT = """wrong.lez:3:5: <error:> there is no `y` here
+WRONG_REPORT = """wrong.lez:3:5: <error:> there is no `y` here
 x = y
     <^>
 """
 
+WARNED_REPORT = """warned.lez:1:5: (warning:) `unused` isn't used
+let unused = 1
+    <^^^^^^>
+[hint:] if it isn't wanted, let its name begin with `_`
+"""
+
 WRONG_WORDS = "<error:> unrecognized subcommand 'chek'\n"
+
+# Each command, with the beginning of its report.
+REPORTS = [
+    (["compile", "wrong.lez", "out"], WRONG_REPORT),
+    (["compile", "warned.lez", "out", "--force"], WARNED_REPORT),
+    (["chek"], WRONG_WORDS),
+]
 
 COLOURS = {"<": "\x1b[1;31m", "(": "\x1b[1;33m", "[": "\x1b[1;36m", ">": "\x1b[0m", ")": "\x1b[0m", "]": "\x1b[0m"}
 
@@ -74,14 +89,15 @@ def main():
     ]
     wrong = 0
     with tempfile.TemporaryDirectory() as folder:
-        Path(folder, "wrong.lez").write_text(PROGRAM, encoding="ascii")
+        Path(folder, "wrong.lez").write_text(WRONG, encoding="ascii")
+        Path(folder, "warned.lez").write_text(WARNED, encoding="ascii")
         for run, env, is_coloured in cases:
-            for words, report in (["compile", "wrong.lez", "out"], REPORT), (["chek"], WRONG_WORDS):
+            for words, report in REPORTS:
                 written = run([segtool, *words], folder, env)
                 if not written.startswith(shown(report, is_coloured)):
                     wrong += 1
                     print(f"{run.__name__} {env} {words}: {written!r}")
-    print(f"{2 * len(cases)} reports, {wrong} wrong")
+    print(f"{len(REPORTS) * len(cases)} reports, {wrong} wrong")
     return 1 if wrong else 0
 
 
