@@ -184,56 +184,11 @@ impl<A: Allocator> Region<A> {
         ensures length { length self.new.bytes ≡ length self.old.bytes }
         ensures home { self.new.home ≡ self.old.home }
     {
+        let bytes = self.data.as_mut_slice();
         if from <= to {
-            self.move_up(from, to - from, n);
+            copy_up(bytes, from, to - from, n);
         } else {
-            self.move_down(to, from - to, n);
-        }
-    }
-
-    /// Copies the `n` bytes from `from` on to a place `distance` bytes further up.
-    fn move_up(&mut self, from: usize, distance: usize, n: usize)
-        requires { from + distance + n ≤ length self.old.bytes }
-        ensures bytes { self.new.bytes
-            ≡ put self.old.bytes (from + distance) (slice self.old.bytes from n) }
-        ensures length { length self.new.bytes ≡ length self.old.bytes }
-        ensures home { self.new.home ≡ self.old.home }
-    {
-        // the compiler calls the C library's memmove for a copy by a constant distance
-        match distance {
-            8 => self
-                .data
-                .as_mut_slice()
-                .copy_within(from..from + n, from + 8),
-            16 => self
-                .data
-                .as_mut_slice()
-                .copy_within(from..from + n, from + 16),
-            _ => self
-                .data
-                .as_mut_slice()
-                .copy_within(from..from + n, from + distance),
-        }
-    }
-
-    /// Copies the `n` bytes from `distance` bytes above `to` on to `to`.
-    fn move_down(&mut self, to: usize, distance: usize, n: usize)
-        requires { to + distance + n ≤ length self.old.bytes }
-        ensures bytes { self.new.bytes
-            ≡ put self.old.bytes to (slice self.old.bytes (to + distance) n) }
-        ensures length { length self.new.bytes ≡ length self.old.bytes }
-        ensures home { self.new.home ≡ self.old.home }
-    {
-        match distance {
-            8 => self.data.as_mut_slice().copy_within(to + 8..to + 8 + n, to),
-            16 => self
-                .data
-                .as_mut_slice()
-                .copy_within(to + 16..to + 16 + n, to),
-            _ => self
-                .data
-                .as_mut_slice()
-                .copy_within(to + distance..to + distance + n, to),
+            copy_down(bytes, to, from - to, n);
         }
     }
 
@@ -245,5 +200,32 @@ impl<A: Allocator> Region<A> {
         ensures home { self.new.home ≡ self.old.home }
     {
         self.data[at..at + n].fill(byte);
+    }
+}
+
+/// Copies the `n` bytes from `from` on to a place `distance` bytes further up.
+fn copy_up(bytes: &mut [u8], from: usize, distance: usize, n: usize)
+    requires { from + distance + n ≤ length bytes.old }
+    ensures bytes { bytes.new ≡ put bytes.old (from + distance) (slice bytes.old from n) }
+    ensures length { length bytes.new ≡ length bytes.old }
+{
+    // the compiler calls the C library's memmove for a copy by a constant distance
+    match distance {
+        8 => bytes.copy_within(from..from + n, from + 8),
+        16 => bytes.copy_within(from..from + n, from + 16),
+        _ => bytes.copy_within(from..from + n, from + distance),
+    }
+}
+
+/// Copies the `n` bytes from `distance` bytes above `to` on to `to`.
+fn copy_down(bytes: &mut [u8], to: usize, distance: usize, n: usize)
+    requires { to + distance + n ≤ length bytes.old }
+    ensures bytes { bytes.new ≡ put bytes.old to (slice bytes.old (to + distance) n) }
+    ensures length { length bytes.new ≡ length bytes.old }
+{
+    match distance {
+        8 => bytes.copy_within(to + 8..to + 8 + n, to),
+        16 => bytes.copy_within(to + 16..to + 16 + n, to),
+        _ => bytes.copy_within(to + distance..to + distance + n, to),
     }
 }
