@@ -1,32 +1,18 @@
-use crate::compiler::{Compiler, Translation};
+//! From the tree of a program to its client: the loop that does one task after the other.
+
+use crate::perform::perform;
 use client_code::TypeTable;
-use script_code::{Code, Compiled, Error, NOWHERE, Program, Types};
-use script_syntax::{Span, Tree};
+use script_blocks::{Compiler, Failure, Translation};
+use script_code::{Code, Compiled, Error, ErrorKind, NOWHERE, Program, Types};
+use script_syntax::Tree;
+use script_values::declare;
 use std::alloc::{AllocError, Global};
 
-/// The errors of a program, in the order of the text, with the types that their messages name.
-#[derive(Drop)]
-pub struct Wrong {
-    pub errors: Vec<Error>,
-    pub types: Types,
-    /// The names which are alive where registers run out, or the first words of the statements whose
-    /// parts are open if there are too many.
-    pub alive: Vec<Span>,
-}
+/// How many tasks one program may take. The largest client takes far fewer.
+const MOST_TASKS: usize = 4_000_000;
 
-/// Why a program isn't compiled.
-#[derive(Drop)]
-pub enum Failure {
-    Errors(Wrong),
-    /// The host is out of memory.
-    Memory,
-}
-
-impl From<AllocError> for Failure {
-    fn from(_: AllocError) -> Failure {
-        Failure::Memory
-    }
-}
+/// The longest code that is written before the compiler gives up.
+const MOST_EMITTED: usize = 65_536;
 
 /// Compiles a program for the types of an image. Types that the image doesn't have get the next
 /// numbers.
@@ -45,12 +31,43 @@ pub fn translate(
         return Err(Failure::Memory);
     };
     let mut compiler = Compiler::new(alloc, program, Code::new(alloc, NOWHERE));
-    compiler.run(tree);
+    run(&mut compiler, tree);
     if compiler.has_failed() {
         return Err(compiler.into_failure());
     }
     let linked = compiler.link(image);
     compiler.finish(linked)
+}
+
+/// Reads the program's declarations, and compiles its statements.
+fn run(compiler: &mut Compiler, tree: &Tree<'_>) {
+    declare(&mut compiler.emitter, tree);
+    if !compiler.emitter.passes_limit() {
+        do_tasks(compiler, tree);
+    }
+    compiler.warn_unused(tree)
+}
+
+fn do_tasks(compiler: &mut Compiler, tree: &Tree<'_>) {
+    compiler.begin_main(tree);
+    for _ in 0..MOST_TASKS {
+        let Some(task) = compiler.emitter.tasks.pop() else {
+            return;
+        };
+        compiler.note_variables();
+        perform(compiler, tree, task);
+        if compiler.emitter.code.trouble.is_set() {
+            compiler.recover(tree);
+        }
+        if compiler.emitter.code.instructions.len() > MOST_EMITTED
+            || compiler.emitter.code.trouble.is_out_of_memory
+        {
+            break;
+        }
+    }
+    compiler
+        .emitter
+        .report(Error::at(NOWHERE, ErrorKind::TOO_LONG));
 }
 
 /// A program that declares nothing.

@@ -1,26 +1,9 @@
-//! The code of the numbers, places, texts and statements of a program, and of its declarations.
+//! The code of a program's numbers and texts, and its declarations.
 #![tactic(auto)]
 
-mod calls;
-mod changes;
-mod declare;
-mod emitter;
-mod expressions;
-mod lookups;
-mod loops;
-mod near;
-mod numbers;
-mod output;
-mod perform;
-mod places;
-mod pushes;
-mod removals;
-mod task;
-mod walks;
+mod declarations;
+pub mod expressions;
+pub mod numbers;
+pub mod output;
 
-pub use emitter::{Emitter, EmitterMark};
-pub use lookups::body_of;
-pub use task::{
-    End, Handler, Loop, Output, PartEnd, Sequence, Task, TextTarget, Turn, Value, Walk,
-};
-pub use walks::Removed;
+pub use declarations::declare;

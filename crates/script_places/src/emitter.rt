@@ -378,6 +378,28 @@ impl Emitter {
             self.code.usage.free(value.register);
         }
     }
+
+    /// The most turns of a loop, after `max`.
+    pub fn turns(&mut self, tree: &Tree<'_>, max: ExpressionAt) -> i32 {
+        match i32::try_from(self.needed_number(tree, max)) {
+            Ok(turns) if turns >= 1 && turns <= 1_000_000_000 => turns,
+            _ => {
+                self.error(self.span_of(tree, max), ErrorKind::TURNS);
+                1
+            }
+        }
+    }
+
+    /// The span of a loop or statement, for a bound that is missing.
+    pub fn needed_turns(&mut self, tree: &Tree<'_>, span: Span, max: Option<ExpressionAt>) -> i32 {
+        match max {
+            Some(max) => self.turns(tree, max),
+            None => {
+                self.error(span, ErrorKind::LOOP_BOUND);
+                1
+            }
+        }
+    }
 }
 
 /// Whether a name is this word.

@@ -1,7 +1,7 @@
 //! Which name may be meant by one that isn't there.
 
 use crate::emitter::Emitter;
-use script_code::StructAt;
+use script_code::{Program, StructAt};
 use script_syntax::{Span, Tree};
 
 impl Emitter {
@@ -22,38 +22,43 @@ impl Emitter {
                 return Some(value.name);
             }
         }
-        self.near_function(tree, word)
+        near_function(&self.program, tree, word)
     }
+}
 
-    /// The function that may be meant by a word.
-    pub fn near_function(&self, tree: &Tree<'_>, word: &[u8]) -> Option<Span> {
-        for function in self.program.functions.as_slice() {
-            if is_near(tree.word(function.name), word) {
-                return Some(function.name);
-            }
+/// The function that may be meant by a word.
+pub fn near_function(program: &Program, tree: &Tree<'_>, word: &[u8]) -> Option<Span> {
+    for function in program.functions.as_slice() {
+        if is_near(tree.word(function.name), word) {
+            return Some(function.name);
         }
-        None
     }
+    None
+}
 
-    /// The struct that may be meant by a word.
-    pub fn near_struct(&self, tree: &Tree<'_>, word: &[u8]) -> Option<Span> {
-        for found in self.program.types.structs.as_slice() {
-            if is_near(tree.word(found.name), word) {
-                return Some(found.name);
-            }
+/// The struct that may be meant by a word.
+pub fn near_struct(program: &Program, tree: &Tree<'_>, word: &[u8]) -> Option<Span> {
+    for found in program.types.structs.as_slice() {
+        if is_near(tree.word(found.name), word) {
+            return Some(found.name);
         }
-        None
     }
+    None
+}
 
-    /// The field of a struct that may be meant by a word.
-    pub fn near_field(&self, tree: &Tree<'_>, found: StructAt, word: &[u8]) -> Option<Span> {
-        for member in self.program.types.fields(found) {
-            if is_near(tree.word(member.name), word) {
-                return Some(member.name);
-            }
+/// The field of a struct that may be meant by a word.
+pub fn near_field(
+    program: &Program,
+    tree: &Tree<'_>,
+    found: StructAt,
+    word: &[u8],
+) -> Option<Span> {
+    for member in program.types.fields(found) {
+        if is_near(tree.word(member.name), word) {
+            return Some(member.name);
         }
-        None
     }
+    None
 }
 
 /// Whether two words differ in one letter, in one that is missing, or in two that are swapped, and

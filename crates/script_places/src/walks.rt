@@ -1,10 +1,11 @@
 //! Walks to places: from their roots, or from the nearest name which still has its register.
 
 use crate::emitter::Emitter;
+use crate::places::openers_from;
 use crate::task::{Handler, Task, Walk};
 use client_code::{ConstantKind, DEPTH, Operation};
 use script_code::{
-    Class, Key, Known, Meaning, NONE, Object, ObjectKind, Operand, Place, Register, Root,
+    Class, Code, Key, Known, Meaning, NONE, Object, ObjectKind, Operand, Place, Register, Root,
     WarningKind, Way, WayKind,
 };
 use script_syntax::{ElsePart, Span, Statement};
@@ -95,7 +96,7 @@ impl Emitter {
             (None, Root::Owner(_) | Root::Number(_)) => (0, 0),
             (None, _) => (0, 1),
         };
-        self.openers_from(place, skipped).saturating_add(roots)
+        openers_from(&self.ways, place, skipped).saturating_add(roots)
     }
 
     /// Goes to a place, and opens a part for each step that may fail. If it `makes`, it makes
@@ -147,9 +148,9 @@ impl Emitter {
         match key {
             Some(key) => {
                 walk.makes_array = makes && matches!(object.kind, ObjectKind::Array(_));
-                self.open_element(register, object, key, makes)
+                open_element(&mut self.code, register, object, key, makes)
             }
-            None => self.open_object(register, object, makes),
+            None => open_object(&mut self.code, register, object, makes),
         }
         walk.add(register)
     }
@@ -173,92 +174,8 @@ impl Emitter {
         self.code.refer(Operation::Ref, register, owner, 0, known)
     }
 
-    fn open_object(&mut self, register: Register, object: Object, makes: bool) {
-        let known = known_object(object);
-        if object.kind == ObjectKind::Unique {
-            let operation = if makes {
-                Operation::FindOrMakeUnique
-            } else {
-                Operation::FindUnique
-            };
-            let operand = Operand::Type(object.value_type);
-            return self
-                .code
-                .open(operation, [register.0, 0, 0], operand, register, known);
-        }
-        let operand = Operand::Named(object.value_type, object.constant);
-        if makes {
-            let registers = [register.0, NONE, 0];
-            return self
-                .code
-                .open(Operation::FindOrMake, registers, operand, register, known);
-        }
-        let registers = [register.0, NONE, NONE];
-        self.code
-            .open(Operation::Find, registers, operand, register, known)
-    }
-
-    fn open_element(&mut self, register: Register, object: Object, key: Key, makes: bool) {
-        let known = known_object(object);
-        let operand = Operand::Named(object.value_type, object.constant);
-        if let ObjectKind::Array(count) = object.kind {
-            if makes {
-                self.make_array(register, operand, known, count);
-            }
-            let (index, is_own) = self.key_register(key);
-            let registers = [register.0, NONE, index.0];
-            self.code
-                .open(Operation::Find, registers, operand, register, known);
-            return self.free_key(index, is_own);
-        }
-        let (number, is_own) = self.key_register(key);
-        if makes {
-            let registers = [register.0, number.0, 0];
-            self.code
-                .open(Operation::FindOrMake, registers, operand, register, known);
-        } else {
-            let registers = [register.0, number.0, NONE];
-            self.code
-                .open(Operation::Find, registers, operand, register, known);
-        }
-        self.free_key(number, is_own)
-    }
-
-    /// Makes an array if it isn't there.
-    fn make_array(&mut self, register: Register, operand: Operand, known: Known, count: i64) {
-        let registers = [register.0, NONE, 0];
-        self.code.open(
-            Operation::Count,
-            registers,
-            operand,
-            register,
-            Known::Number,
-        );
-        self.code.begin_else();
-        self.code.number(register, count);
-        let registers = [register.0, NONE, register.0];
-        self.code
-            .open(Operation::Make, registers, operand, register, known);
-        self.code.close();
-        self.code.end_part()
-    }
-
-    /// A register with a key, and whether it is taken for that.
-    pub fn key_register(&mut self, key: Key) -> (Register, bool) {
-        match key {
-            Key::Literal(value) => (self.code.literal(value), true),
-            Key::Register(register) => (register, false),
-        }
-    }
-
-    pub fn free_key(&mut self, register: Register, is_own: bool) {
-        if is_own {
-            self.code.usage.free(register);
-        }
-    }
-
     fn walk_step(&mut self, walk: &mut Walk, way: Way, makes: bool) {
-        let to = self.walk_register(walk);
+        let to = walk_register(&mut self.code, walk);
         let from = walk.register;
         if let WayKind::Content { is_shared: true } = way.kind {
             walk.is_frozen = true;
@@ -271,97 +188,18 @@ impl Emitter {
         if let Known::Nothing = self.code.known(from) {
             return self.skip();
         }
-        self.emit_step(way.kind, to, from, part, makes && !walk.is_frozen);
+        emit_step(
+            &mut self.code,
+            way.kind,
+            to,
+            from,
+            part,
+            makes && !walk.is_frozen,
+        );
         if way.kind.can_fail() {
             walk.add(to);
         }
         walk.register = to;
-    }
-
-    /// The register of a walk's own. It is taken at the first step.
-    fn walk_register(&mut self, walk: &mut Walk) -> Register {
-        match walk.held {
-            Some(register) => register,
-            None => {
-                let register = self.code.take_held();
-                walk.held = Some(register);
-                register
-            }
-        }
-    }
-
-    /// Emits a step to this part.
-    fn emit_step(&mut self, kind: WayKind, to: Register, from: Register, part: Known, makes: bool) {
-        if let WayKind::Field(number) = kind {
-            let number = i32::try_from(number).unwrap_or(0);
-            return self.code.refer(Operation::Field, to, from, number, part);
-        }
-        let known = match kind {
-            WayKind::FirstKey | WayKind::NextKey(_) | WayKind::Byte(_) => Known::Number,
-            _ => part,
-        };
-        self.open_step(operation_of(kind, makes), to, from, kind.key(), known)
-    }
-
-    fn open_step(
-        &mut self,
-        operation: Operation,
-        to: Register,
-        from: Register,
-        key: Option<Key>,
-        known: Known,
-    ) {
-        let (c, is_own) = match key {
-            Some(key) => {
-                let (register, is_own) = self.key_register(key);
-                (register.0, is_own)
-            }
-            None => (0, false),
-        };
-        if is_own {
-            self.code.usage.free(Register(c));
-        }
-        let registers = [to.0, from.0, c];
-        if operation == Operation::PutKey {
-            return self.code.open_change(operation, registers, to, known);
-        }
-        self.code
-            .open(operation, registers, Operand::Plain(0), to, known)
-    }
-
-    /// Ends the parts of a walk, and does nothing where a step fails.
-    pub fn close_walk(&mut self, walk: &Walk) {
-        for _ in 0..walk.count {
-            self.code.close();
-        }
-        self.release_walk(walk);
-    }
-
-    /// Ends the parts of a walk. If a step fails, a register is set to its code.
-    pub fn close_noting(&mut self, walk: &Walk, code: Register) {
-        for at in (0..walk.count).rev() {
-            if at < DEPTH {
-                self.code.begin_else();
-                if at == 0 && walk.makes_array {
-                    self.tell_no_room(walk.opened[at]);
-                }
-                self.code.copy(code, walk.opened[at]);
-                self.code.end_part();
-            }
-        }
-        self.release_walk(walk);
-    }
-
-    /// In the else part of the lookup of an array's value, before which the array was made: if it
-    /// isn't there, memory ran out, and the register gets this code.
-    pub fn tell_no_room(&mut self, code: Register) {
-        self.code.decrement_if(code, ABSENT)
-    }
-
-    fn release_walk(&mut self, walk: &Walk) {
-        if let Some(register) = walk.held {
-            self.code.usage.release(register);
-        }
     }
 
     /// A register for the code of a walk that several steps can fail in, set to 0, if something is
@@ -391,7 +229,7 @@ impl Emitter {
     /// in a register, and otherwise in each else part.
     pub fn close_handling(&mut self, walk: &Walk, handler: Handler, code: Option<Register>) {
         if handler.is_nothing() {
-            return self.close_walk(walk);
+            return close_walk(&mut self.code, walk);
         }
         match code {
             Some(code) => self.close_coded(walk, handler, code),
@@ -419,7 +257,7 @@ impl Emitter {
     /// Ends the parts of a walk. If a step fails, its code is in the register, and the handler runs
     /// after all parts.
     pub fn close_coded(&mut self, walk: &Walk, handler: Handler, code: Register) {
-        self.close_noting(walk, code);
+        close_noting(&mut self.code, walk, code);
         self.then(&[Task::HandleIf(code, handler), Task::Release(code)])
     }
 
@@ -486,46 +324,213 @@ impl Emitter {
                 continue;
             };
             if let Meaning::Place { place: named, .. } = name.meaning {
-                if self.may_be_below(&named, place, removed) {
+                if may_be_below(&self.ways, &named, place, removed) {
                     self.code.end_name(name.id, span);
                 }
             }
         }
     }
+}
 
-    fn may_be_below(&self, named: &Place, place: &Place, removed: Removed) -> bool {
-        if !named.root.may_equal(place.root) {
-            return false;
-        }
-        let is_whole = matches!(removed, Removed::Whole);
-        if !is_whole && named.len() <= place.len() {
-            return false;
-        }
-        if !self.ways_may_equal(named, place) {
-            return false;
-        }
-        let Removed::Key(key) = removed else {
-            return true;
+fn open_object(code: &mut Code, register: Register, object: Object, makes: bool) {
+    let known = known_object(object);
+    if object.kind == ObjectKind::Unique {
+        let operation = if makes {
+            Operation::FindOrMakeUnique
+        } else {
+            Operation::FindUnique
         };
-        match self.ways.get(named.first.saturating_add(place.len())) {
-            Some(way) => way.kind.may_equal(WayKind::Key(key)),
-            None => true,
+        let operand = Operand::Type(object.value_type);
+        return code.open(operation, [register.0, 0, 0], operand, register, known);
+    }
+    let operand = Operand::Named(object.value_type, object.constant);
+    if makes {
+        let registers = [register.0, NONE, 0];
+        return code.open(Operation::FindOrMake, registers, operand, register, known);
+    }
+    let registers = [register.0, NONE, NONE];
+    code.open(Operation::Find, registers, operand, register, known)
+}
+
+fn open_element(code: &mut Code, register: Register, object: Object, key: Key, makes: bool) {
+    let known = known_object(object);
+    let operand = Operand::Named(object.value_type, object.constant);
+    if let ObjectKind::Array(count) = object.kind {
+        if makes {
+            make_array(code, register, operand, known, count);
+        }
+        let (index, is_own) = key_register(code, key);
+        let registers = [register.0, NONE, index.0];
+        code.open(Operation::Find, registers, operand, register, known);
+        return free_key(code, index, is_own);
+    }
+    let (number, is_own) = key_register(code, key);
+    if makes {
+        let registers = [register.0, number.0, 0];
+        code.open(Operation::FindOrMake, registers, operand, register, known);
+    } else {
+        let registers = [register.0, number.0, NONE];
+        code.open(Operation::Find, registers, operand, register, known);
+    }
+    free_key(code, number, is_own)
+}
+
+/// Makes an array if it isn't there.
+fn make_array(code: &mut Code, register: Register, operand: Operand, known: Known, count: i64) {
+    let registers = [register.0, NONE, 0];
+    code.open(
+        Operation::Count,
+        registers,
+        operand,
+        register,
+        Known::Number,
+    );
+    code.begin_else();
+    code.number(register, count);
+    let registers = [register.0, NONE, register.0];
+    code.open(Operation::Make, registers, operand, register, known);
+    code.close();
+    code.end_part()
+}
+
+/// A register with a key, and whether it is taken for that.
+pub fn key_register(code: &mut Code, key: Key) -> (Register, bool) {
+    match key {
+        Key::Literal(value) => (code.literal(value), true),
+        Key::Register(register) => (register, false),
+    }
+}
+
+pub fn free_key(code: &mut Code, register: Register, is_own: bool) {
+    if is_own {
+        code.usage.free(register);
+    }
+}
+
+/// The register of a walk's own. It is taken at the first step.
+fn walk_register(code: &mut Code, walk: &mut Walk) -> Register {
+    match walk.held {
+        Some(register) => register,
+        None => {
+            let register = code.take_held();
+            walk.held = Some(register);
+            register
         }
     }
+}
 
-    /// Whether a place may begin with the way of another one.
-    fn ways_may_equal(&self, named: &Place, place: &Place) -> bool {
-        for step in 0..place.len() {
-            let one = self.ways.get(named.first.saturating_add(step));
-            let two = self.ways.get(place.first.saturating_add(step));
-            if let (Some(one), Some(two)) = (one, two) {
-                if !one.kind.may_equal(two.kind) {
-                    return false;
-                }
+/// Emits a step to this part.
+fn emit_step(
+    code: &mut Code,
+    kind: WayKind,
+    to: Register,
+    from: Register,
+    part: Known,
+    makes: bool,
+) {
+    if let WayKind::Field(number) = kind {
+        let number = i32::try_from(number).unwrap_or(0);
+        return code.refer(Operation::Field, to, from, number, part);
+    }
+    let known = match kind {
+        WayKind::FirstKey | WayKind::NextKey(_) | WayKind::Byte(_) => Known::Number,
+        _ => part,
+    };
+    open_step(code, operation_of(kind, makes), to, from, kind.key(), known)
+}
+
+fn open_step(
+    code: &mut Code,
+    operation: Operation,
+    to: Register,
+    from: Register,
+    key: Option<Key>,
+    known: Known,
+) {
+    let (c, is_own) = match key {
+        Some(key) => {
+            let (register, is_own) = key_register(code, key);
+            (register.0, is_own)
+        }
+        None => (0, false),
+    };
+    if is_own {
+        code.usage.free(Register(c));
+    }
+    let registers = [to.0, from.0, c];
+    if operation == Operation::PutKey {
+        return code.open_change(operation, registers, to, known);
+    }
+    code.open(operation, registers, Operand::Plain(0), to, known)
+}
+
+/// Ends the parts of a walk, and does nothing where a step fails.
+pub fn close_walk(code: &mut Code, walk: &Walk) {
+    for _ in 0..walk.count {
+        code.close();
+    }
+    release_walk(code, walk);
+}
+
+/// Ends the parts of a walk. If a step fails, a register is set to its code.
+pub fn close_noting(code: &mut Code, walk: &Walk, failure: Register) {
+    for at in (0..walk.count).rev() {
+        if at < DEPTH {
+            code.begin_else();
+            if at == 0 && walk.makes_array {
+                tell_no_room(code, walk.opened[at]);
+            }
+            code.copy(failure, walk.opened[at]);
+            code.end_part();
+        }
+    }
+    release_walk(code, walk);
+}
+
+/// In the else part of the lookup of an array's value, before which the array was made: if it
+/// isn't there, memory ran out, and the register gets this code.
+pub fn tell_no_room(code: &mut Code, failure: Register) {
+    code.decrement_if(failure, ABSENT)
+}
+
+fn release_walk(code: &mut Code, walk: &Walk) {
+    if let Some(register) = walk.held {
+        code.usage.release(register);
+    }
+}
+
+fn may_be_below(ways: &[Way], named: &Place, place: &Place, removed: Removed) -> bool {
+    if !named.root.may_equal(place.root) {
+        return false;
+    }
+    let is_whole = matches!(removed, Removed::Whole);
+    if !is_whole && named.len() <= place.len() {
+        return false;
+    }
+    if !ways_may_equal(ways, named, place) {
+        return false;
+    }
+    let Removed::Key(key) = removed else {
+        return true;
+    };
+    match ways.get(named.first.saturating_add(place.len())) {
+        Some(way) => way.kind.may_equal(WayKind::Key(key)),
+        None => true,
+    }
+}
+
+/// Whether a place may begin with the way of another one.
+fn ways_may_equal(ways: &[Way], named: &Place, place: &Place) -> bool {
+    for step in 0..place.len() {
+        let one = ways.get(named.first.saturating_add(step));
+        let two = ways.get(place.first.saturating_add(step));
+        if let (Some(one), Some(two)) = (one, two) {
+            if !one.kind.may_equal(two.kind) {
+                return false;
             }
         }
-        true
     }
+    true
 }
 
 impl Handler {

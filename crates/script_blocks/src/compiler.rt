@@ -1,6 +1,6 @@
-//! The compiler: its state, and the loop that does one task after the other.
+//! The state of a compilation, and what is done after an error.
 
-use crate::entry::{Failure, Wrong};
+use crate::failure::{Failure, Wrong};
 use crate::nests::{Deferred, KeptName, Nest, NestKind};
 use crate::variables::{VariableChange, Variables, VariablesMark};
 use client_code::TypeTable;
@@ -8,15 +8,9 @@ use script_code::{
     Code, Compiled, Error, ErrorClass, ErrorKind, Linked, Meaning, NOWHERE, Name, Problem, Program,
     Register, Trouble, WarningKind, append, link,
 };
+use script_places::{Emitter, EmitterMark, Handler, Loop, Sequence, Task};
 use script_syntax::{Span, StatementAt, StatementKind, Tree};
-use script_values::{Emitter, EmitterMark, Handler, Loop, Sequence, Task};
 use std::alloc::Global;
-
-/// How many tasks one program may take. The largest client takes far fewer.
-const MOST_TASKS: usize = 4_000_000;
-
-/// The longest code that is written before the compiler gives up.
-const MOST_EMITTED: usize = 65_536;
 
 /// How far a compilation is. Going back to it needs no copy.
 #[derive(Clone, Copy)]
@@ -198,37 +192,8 @@ impl Compiler {
         linked
     }
 
-    /// Reads the program's declarations, and compiles its statements.
-    pub fn run(&mut self, tree: &Tree<'_>) {
-        self.emitter.declare(tree);
-        if !self.emitter.passes_limit() {
-            self.do_tasks(tree);
-        }
-        self.warn_unused(tree)
-    }
-
-    fn do_tasks(&mut self, tree: &Tree<'_>) {
-        self.begin_main(tree);
-        for _ in 0..MOST_TASKS {
-            let Some(task) = self.emitter.tasks.pop() else {
-                return;
-            };
-            self.note_variables();
-            self.perform(tree, task);
-            if self.emitter.code.trouble.is_set() {
-                self.recover(tree);
-            }
-            if self.emitter.code.instructions.len() > MOST_EMITTED
-                || self.emitter.code.trouble.is_out_of_memory
-            {
-                break;
-            }
-        }
-        self.emitter.report(Error::at(NOWHERE, ErrorKind::TOO_LONG));
-    }
-
     /// Continues after a task that failed.
-    fn recover(&mut self, tree: &Tree<'_>) {
+    pub fn recover(&mut self, tree: &Tree<'_>) {
         match self.emitter.code.trouble.take() {
             Some(Problem::Error(error)) if error.kind.is_limit() => self.avoid_limit(tree, error),
             Some(Problem::Error(error)) => {
@@ -442,7 +407,7 @@ impl Compiler {
         }
     }
 
-    fn note_variables(&mut self) {
+    pub fn note_variables(&mut self) {
         let emitter = &mut self.emitter;
         let instruction = emitter.code.instructions.len();
         self.variables
@@ -472,7 +437,7 @@ impl Compiler {
     }
 
     /// Warns of each name which isn't used.
-    fn warn_unused(&mut self, tree: &Tree<'_>) {
+    pub fn warn_unused(&mut self, tree: &Tree<'_>) {
         for at in 0..self.seen.len() {
             if let Some(seen) = self.seen.get(at).copied() {
                 self.warn_seen(tree, seen);

@@ -6,8 +6,8 @@ use client_code::Operation;
 use script_code::{
     COUNT, ErrorKind, Key, Meaning, NOWHERE, Name, OtherParts, Place, Register, Root, append,
 };
+use script_places::{Sequence, Task};
 use script_syntax::{Span, StatementAt, Tree};
-use script_values::{Sequence, Task};
 
 /// What a nest begins with.
 #[derive(Clone, Copy)]

@@ -2,8 +2,8 @@
 
 use crate::compiler::{Compiler, Construct, ConstructKind};
 use script_code::{ErrorKind, Register, append};
+use script_places::{Sequence, Task};
 use script_syntax::{Block, Range, Span, Statement, StatementAt, StatementKind, Tree};
-use script_values::{Sequence, Task};
 
 /// No statements.
 const EMPTY: Range = Range { first: 0, end: 0 };

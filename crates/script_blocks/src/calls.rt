@@ -1,35 +1,15 @@
 //! Calls of functions. A function is compiled where it is called.
 
+use crate::arguments::{
+    begin_arguments, bind_parameters, end_result, guard_rest, hold_temporaries, keep_temporaries,
+    leave_flat, takes,
+};
 use crate::compiler::{Compiler, Construct, ConstructKind};
 use script_code::{About, ErrorKind, Function};
-use script_syntax::{ExpressionAt, ExpressionKind, Range, Span, StatementAt, Tree};
-use script_values::Task;
+use script_places::{Task, near_function};
+use script_syntax::{ExpressionAt, Range, Span, Tree};
 
 impl Compiler {
-    /// A call of a function, or of a method.
-    pub fn begin_call_statement(
-        &mut self,
-        tree: &Tree<'_>,
-        statement: StatementAt,
-        at: ExpressionAt,
-    ) {
-        let Some(found) = tree.statement(statement) else {
-            return;
-        };
-        let Some(expression) = tree.expression(at) else {
-            return;
-        };
-        match expression.kind {
-            ExpressionKind::Call(arguments) => {
-                if found.otherwise.is_some() {
-                    return self.emitter.error(found.span, ErrorKind::CALL_ELSE);
-                }
-                self.begin_call(tree, at, expression.span, arguments, false)
-            }
-            _ => self.emitter.begin_method(tree, at, statement, false),
-        }
-    }
-
     /// Works out the arguments of a call, and then the call.
     pub fn begin_call(
         &mut self,
@@ -41,7 +21,7 @@ impl Compiler {
     ) {
         let word = tree.word(span);
         let Some(position) = self.emitter.program.function_named(tree, word) else {
-            let near = self.emitter.near_function(tree, word);
+            let near = near_function(&self.emitter.program, tree, word);
             return self
                 .emitter
                 .error_about(span, ErrorKind::NO_FUNCTION, About::near(near));
@@ -52,7 +32,7 @@ impl Compiler {
         if self.is_running(position) {
             return self.emitter.error(span, ErrorKind::RECURSION);
         }
-        if !self.emitter.takes(tree, function, span, arguments) {
+        if !takes(&mut self.emitter, tree, function, span, arguments) {
             return;
         }
         if wants_value && !function.gives_number {
@@ -61,7 +41,7 @@ impl Compiler {
         let here = self.emitter.code.span;
         self.emitter
             .then(&[Task::Call(position, at, wants_value), Task::At(here)]);
-        self.emitter.begin_arguments(tree, function, arguments)
+        begin_arguments(&mut self.emitter, tree, function, arguments)
     }
 
     /// Whether a function is being compiled.
@@ -82,14 +62,14 @@ impl Compiler {
             return self.emitter.skip();
         };
         let (names, base) = (self.emitter.names.len(), self.emitter.names.base);
-        let held = self.emitter.hold_temporaries();
-        self.emitter.bind_parameters(tree, function, at);
+        let held = hold_temporaries(&mut self.emitter.code);
+        bind_parameters(&mut self.emitter, tree, function, at);
         self.emitter.names.base = names;
         let result = match function.gives_number {
             true => Some(self.emitter.code.literal_held(0)),
             false => None,
         };
-        self.emitter.leave_flat();
+        leave_flat(&mut self.emitter);
         let exits = self.exits();
         self.push_construct(ConstructKind::Function {
             result,
@@ -138,9 +118,9 @@ impl Compiler {
         if let Some(running) = running {
             self.emitter.code.usage.release(running);
         }
-        self.emitter.keep_temporaries(&held);
+        keep_temporaries(&mut self.emitter.code, &held);
         if let Some(result) = result {
-            self.emitter.end_result(result, wants_value);
+            end_result(&mut self.emitter, result, wants_value);
         }
         if wants_value && self.exits() > exits {
             self.guard_rest()
@@ -153,7 +133,7 @@ impl Compiler {
             return;
         };
         match construct.running {
-            Some(running) => self.emitter.guard_rest(running),
+            Some(running) => guard_rest(&mut self.emitter, running),
             None => {
                 construct.wants_running = true;
             }

@@ -1,12 +1,17 @@
 //! Places: from their names and steps to a root and a way.
 
 use crate::emitter::{Emitter, is_word};
+use crate::near::near_field;
 use crate::task::Task;
 use script_code::{
-    About, ErrorKind, Key, Meaning, Object, ObjectKind, Place, Root, Shape, TypeAt, Way, WayKind,
-    append,
+    About, ErrorKind, Key, Meaning, Names, Object, ObjectKind, Place, Program, Root, Shape, TypeAt,
+    Way, WayKind, append,
 };
 use script_syntax::{Container, ExpressionAt, ExpressionKind, Range, Span, Step, StepKind, Tree};
+
+pub fn kind_of(program: &Program, object: usize) -> Option<ObjectKind> {
+    Some(program.object(object)?.kind)
+}
 
 /// A place that is being worked out.
 #[derive(Clone, Copy)]
@@ -18,19 +23,19 @@ struct Resolving {
     name: Span,
 }
 
-impl Emitter {
-    /// The local name which an expression is.
-    pub fn plain_name(&self, tree: &Tree<'_>, at: ExpressionAt) -> Option<usize> {
-        let expression = tree.expression(at)?;
-        match expression.kind {
-            ExpressionKind::Place(steps) if steps.is_empty() => {
-                let word = tree.word(expression.span);
-                self.names.find(tree, word)
-            }
-            _ => None,
+/// The local name which an expression is.
+pub fn plain_name(names: &Names, tree: &Tree<'_>, at: ExpressionAt) -> Option<usize> {
+    let expression = tree.expression(at)?;
+    match expression.kind {
+        ExpressionKind::Place(steps) if steps.is_empty() => {
+            let word = tree.word(expression.span);
+            names.find(tree, word)
         }
+        _ => None,
     }
+}
 
+impl Emitter {
     /// Whether an expression is a place, and not a constant.
     pub fn is_place(&self, tree: &Tree<'_>, at: ExpressionAt) -> bool {
         matches!(
@@ -65,7 +70,7 @@ impl Emitter {
         let steps = tree.steps(steps);
         let first_value = self.first_key(tree, steps);
         let mut resolving = Resolving {
-            place: self.empty_place(span),
+            place: empty_place(&self.ways, span),
             next_value: first_value,
             name: span,
         };
@@ -101,15 +106,6 @@ impl Emitter {
             }
         }
         self.values.len().saturating_sub(count)
-    }
-
-    fn empty_place(&self, span: Span) -> Place {
-        Place {
-            first: self.ways.len(),
-            end: self.ways.len(),
-            span,
-            ..Place::NONE
-        }
     }
 
     /// Finds what a place begins with. Returns how many steps that takes.
@@ -223,7 +219,7 @@ impl Emitter {
             self.skip();
             return 0;
         };
-        self.use_object(at);
+        use_object(&mut self.program, at);
         resolving.place.value_type = object.value_type;
         match object.kind {
             ObjectKind::Single | ObjectKind::Unique => {
@@ -233,12 +229,6 @@ impl Emitter {
             ObjectKind::Array(_) | ObjectKind::Family => {
                 self.resolve_element(tree, resolving, at, object, steps)
             }
-        }
-    }
-
-    pub fn use_object(&mut self, at: usize) {
-        if let Some(object) = self.program.objects.get_mut(at) {
-            object.is_used = true;
         }
     }
 
@@ -402,7 +392,7 @@ impl Emitter {
             Some((number, to)) => { self.add_way(&mut resolving.place, WayKind::Field(number), to) }
             None => {
                 let mut about = About::of_type(value_type);
-                about.near = self.near_field(tree, found, word);
+                about.near = near_field(&self.program, tree, found, word);
                 self.error_about(span, ErrorKind::NO_FIELD, about)
             }
         }
@@ -421,42 +411,15 @@ impl Emitter {
     fn type_after(&self, tree: &Tree<'_>, name: Span, steps: &[Step]) -> Option<TypeAt> {
         let word = tree.word(name);
         let (mut found, skipped) = match self.names.find(tree, word) {
-            Some(name) => (self.type_of_name(name)?, 0),
-            None => self.type_of_object(tree, word, steps)?,
+            Some(name) => (type_of_name(&self.names, name)?, 0),
+            None => type_of_object(&self.program, tree, word, steps)?,
         };
         for (number, step) in steps.iter().enumerate() {
             if number >= skipped {
-                found = self.type_of_step(tree, found, step)?;
+                found = type_of_step(&self.program, tree, found, step)?;
             }
         }
         Some(found)
-    }
-
-    fn type_of_name(&self, at: usize) -> Option<TypeAt> {
-        match self.names.get(at)?.meaning {
-            Meaning::Number { .. } => Some(TypeAt::INT),
-            Meaning::Place { place, .. } => Some(place.value_type),
-            Meaning::Owner { value_type, .. } => Some(value_type),
-            Meaning::Hidden(_) | Meaning::Unknown => None,
-        }
-    }
-
-    /// The type that a place begins with at an object, and how many of its steps that takes.
-    fn type_of_object(
-        &self,
-        tree: &Tree<'_>,
-        word: &[u8],
-        steps: &[Step],
-    ) -> Option<(TypeAt, usize)> {
-        let at = self.program.object_named(tree, word)?;
-        let object = self.program.object(at)?;
-        match object.kind {
-            ObjectKind::Single | ObjectKind::Unique => Some((object.value_type, 0)),
-            ObjectKind::Array(_) if begins_with_length(tree, steps) => {
-                Some((TypeAt::INT, steps.len()))
-            }
-            ObjectKind::Array(_) | ObjectKind::Family => Some((object.value_type, 1)),
-        }
     }
 
     /// Whether an expression is the number of the items of a container, a text or an array.
@@ -476,39 +439,9 @@ impl Emitter {
             .get(..steps.len().saturating_sub(1))
             .unwrap_or_default();
         match self.type_after(tree, expression.span, before) {
-            Some(found) => !matches!(self.content_shape(found), Shape::Struct(_)),
+            Some(found) => !matches!(content_shape(&self.program, found), Shape::Struct(_)),
             None => false,
         }
-    }
-
-    fn type_of_step(&self, tree: &Tree<'_>, from: TypeAt, step: &Step) -> Option<TypeAt> {
-        let shape = self.content_shape(from);
-        match step.kind {
-            StepKind::Index(_) => shape.item(),
-            StepKind::Method(_) => Some(TypeAt::INT),
-            StepKind::Field => self.type_of_field(tree, shape, step.span),
-        }
-    }
-
-    /// The shape of a type, or of what an `own` or a `shared` contains.
-    fn content_shape(&self, from: TypeAt) -> Shape {
-        let mut from = from;
-        for _ in 0..self.program.types.len() {
-            match self.program.types.shape(from).content() {
-                Some(content) => from = content,
-                None => break,
-            }
-        }
-        self.program.types.shape(from)
-    }
-
-    fn type_of_field(&self, tree: &Tree<'_>, shape: Shape, name: Span) -> Option<TypeAt> {
-        let Shape::Struct(found) = shape else {
-            return Some(TypeAt::INT);
-        };
-        let word = tree.word(name);
-        let (_, to) = self.program.types.field(tree, found, word)?;
-        Some(to)
     }
 
     /// Whether an expression is a place with a text.
@@ -519,44 +452,11 @@ impl Emitter {
     /// How many steps of the way to a place can fail, without those to its name.
     pub fn fallible(&self, place: &Place) -> usize {
         let (skipped, roots) = match (place.via, place.root) {
-            (Some(name), _) => (self.way_length(name), 0),
+            (Some(name), _) => (way_length(&self.names, name), 0),
             (None, Root::Owner(_) | Root::Number(_)) => (0, 0),
             (None, _) => (0, 1),
         };
-        self.openers_from(place, skipped).saturating_add(roots)
-    }
-
-    /// The number of steps of a name's way.
-    pub fn way_length(&self, name: usize) -> usize {
-        match self.names.get(name) {
-            Some(name) => match name.meaning {
-                Meaning::Place { place, .. } => place.len(),
-                _ => 0,
-            },
-            None => 0,
-        }
-    }
-
-    /// How many steps of a place's way, from one on, can fail.
-    pub fn openers_from(&self, place: &Place, skipped: usize) -> usize {
-        let mut count = 0usize;
-        for at in place.first.saturating_add(skipped)..place.end {
-            if let Some(way) = self.ways.get(at) {
-                if way.kind.can_fail() {
-                    count = count.saturating_add(1);
-                }
-            }
-        }
-        count
-    }
-
-    /// The last step of a place's way.
-    pub fn last_way(&self, place: &Place) -> Option<WayKind> {
-        if place.len() == 0 {
-            return None;
-        }
-        let at = place.end.checked_sub(1)?;
-        Some(self.ways.get(at)?.kind)
+        openers_from(&self.ways, place, skipped).saturating_add(roots)
     }
 
     pub fn check_changeable(&mut self, place: &Place) {
@@ -564,6 +464,111 @@ impl Emitter {
             return self.error(place.span, ErrorKind::FROZEN);
         }
     }
+}
+
+fn empty_place(ways: &[Way], span: Span) -> Place {
+    Place {
+        first: ways.len(),
+        end: ways.len(),
+        span,
+        ..Place::NONE
+    }
+}
+
+pub fn use_object(program: &mut Program, at: usize) {
+    if let Some(object) = program.objects.get_mut(at) {
+        object.is_used = true;
+    }
+}
+
+fn type_of_name(names: &Names, at: usize) -> Option<TypeAt> {
+    match names.get(at)?.meaning {
+        Meaning::Number { .. } => Some(TypeAt::INT),
+        Meaning::Place { place, .. } => Some(place.value_type),
+        Meaning::Owner { value_type, .. } => Some(value_type),
+        Meaning::Hidden(_) | Meaning::Unknown => None,
+    }
+}
+
+/// The type that a place begins with at an object, and how many of its steps that takes.
+fn type_of_object(
+    program: &Program,
+    tree: &Tree<'_>,
+    word: &[u8],
+    steps: &[Step],
+) -> Option<(TypeAt, usize)> {
+    let at = program.object_named(tree, word)?;
+    let object = program.object(at)?;
+    match object.kind {
+        ObjectKind::Single | ObjectKind::Unique => Some((object.value_type, 0)),
+        ObjectKind::Array(_) if begins_with_length(tree, steps) => {
+            Some((TypeAt::INT, steps.len()))
+        }
+        ObjectKind::Array(_) | ObjectKind::Family => Some((object.value_type, 1)),
+    }
+}
+
+fn type_of_step(program: &Program, tree: &Tree<'_>, from: TypeAt, step: &Step) -> Option<TypeAt> {
+    let shape = content_shape(program, from);
+    match step.kind {
+        StepKind::Index(_) => shape.item(),
+        StepKind::Method(_) => Some(TypeAt::INT),
+        StepKind::Field => type_of_field(program, tree, shape, step.span),
+    }
+}
+
+/// The shape of a type, or of what an `own` or a `shared` contains.
+fn content_shape(program: &Program, from: TypeAt) -> Shape {
+    let mut from = from;
+    for _ in 0..program.types.len() {
+        match program.types.shape(from).content() {
+            Some(content) => from = content,
+            None => break,
+        }
+    }
+    program.types.shape(from)
+}
+
+fn type_of_field(program: &Program, tree: &Tree<'_>, shape: Shape, name: Span) -> Option<TypeAt> {
+    let Shape::Struct(found) = shape else {
+        return Some(TypeAt::INT);
+    };
+    let word = tree.word(name);
+    let (_, to) = program.types.field(tree, found, word)?;
+    Some(to)
+}
+
+/// The number of steps of a name's way.
+fn way_length(names: &Names, name: usize) -> usize {
+    match names.get(name) {
+        Some(name) => match name.meaning {
+            Meaning::Place { place, .. } => place.len(),
+            _ => 0,
+        },
+        None => 0,
+    }
+}
+
+/// How many steps of a place's way, from one on, can fail.
+pub fn openers_from(ways: &[Way], place: &Place, skipped: usize) -> usize {
+    let mut count = 0usize;
+    for at in place.first.saturating_add(skipped)..place.end {
+        if let Some(way) = ways.get(at) {
+            if way.kind.can_fail() {
+                count = count.saturating_add(1);
+            }
+        }
+    }
+    count
+}
+
+/// The last step of a place's way.
+pub fn last_way(ways: &[Way], place: &Place) -> Option<WayKind> {
+    if place.len() == 0 {
+        return None;
+    }
+    let at = place.end.checked_sub(1)?;
+    Some(ways.get(at)?.kind)
 }
 
 /// The steps of a place without the last `dropped` ones.

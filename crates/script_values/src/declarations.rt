@@ -1,0 +1,602 @@
+//! Declarations: constants, structs, objects, functions and the `fail` part.
+
+use script_code::{
+    About, Code, Error, ErrorKind, Function, MOST_DEPTH, Member, NamedValue, Object, ObjectKind,
+    Problem, Program, Shape, StructAt, StructType, Trouble, TypeAt, append,
+};
+use script_places::{Emitter, constant_kind, near_struct};
+use script_syntax::{
+    Block, Declaration, DeclarationKind, ExpressionAt, Range, Span, StatementKind, Tree, Type,
+};
+
+/// The most bytes of an object's name.
+const LONGEST_NAME: usize = 63;
+
+/// The most bytes of the name of a family.
+const LONGEST_FAMILY: usize = 42;
+
+/// How many blocks the search of a `fail` part visits.
+const MOST_BLOCKS: usize = 1_000_000;
+
+/// How many blocks may be in each other. Names are looked up one by one, so deeper ones would be slow.
+const MOST_NESTED: usize = 1_000;
+
+/// Reads all declarations, and reports their errors.
+pub fn declare(emitter: &mut Emitter, tree: &Tree<'_>) {
+    check_nesting(emitter, tree);
+    for declaration in tree.declarations() {
+        declare_name(emitter, tree, *declaration);
+    }
+    find_values(emitter, tree);
+    for declaration in tree.declarations() {
+        declare_fields(emitter, tree, *declaration);
+        report_noted(emitter);
+    }
+    check_structs(emitter);
+    for declaration in tree.declarations() {
+        declare_object(emitter, tree, *declaration);
+        report_noted(emitter);
+    }
+}
+
+/// Reports blocks that are too deep in each other.
+fn check_nesting(emitter: &mut Emitter, tree: &Tree<'_>) {
+    let mut waiting = Vec::new(emitter.alloc);
+    add_outermost(&mut emitter.code, tree, &mut waiting);
+    for _ in 0..MOST_BLOCKS {
+        let Some(nested) = waiting.pop() else {
+            return;
+        };
+        if nested.depth > MOST_NESTED {
+            return report_nested(emitter, tree, nested.block);
+        }
+        add_nested(
+            &mut emitter.code,
+            tree,
+            &mut waiting,
+            nested.block.statements,
+            nested.depth,
+        );
+        add_nested(
+            &mut emitter.code,
+            tree,
+            &mut waiting,
+            nested.block.following,
+            nested.depth,
+        );
+    }
+}
+
+/// Adds the outermost blocks of the program.
+fn add_outermost(code: &mut Code, tree: &Tree<'_>, waiting: &mut Vec<Nested>) {
+    add_nested_block(waiting, tree.body(), 1, &mut code.trouble);
+    for declaration in tree.declarations() {
+        match declaration.kind {
+            DeclarationKind::Fail(block) | DeclarationKind::Function { body: block, .. } => {
+                add_nested_block(waiting, block, 1, &mut code.trouble)
+            }
+            _ => {}
+        }
+    }
+}
+
+/// Adds the blocks of statements at this depth.
+fn add_nested(
+    code: &mut Code,
+    tree: &Tree<'_>,
+    waiting: &mut Vec<Nested>,
+    range: Range,
+    depth: usize,
+) {
+    let depth = depth.saturating_add(1);
+    for statement in tree.statements(range) {
+        if let Some(body) = statement.body {
+            add_nested_block(waiting, body, depth, &mut code.trouble);
+        }
+        if let Some(part) = statement.otherwise {
+            add_nested_block(waiting, part.block, depth, &mut code.trouble);
+        }
+    }
+}
+
+fn report_nested(emitter: &mut Emitter, tree: &Tree<'_>, block: Block) {
+    if let Some(statement) = tree.statements(block.statements).first() {
+        report_at(emitter, statement.span, ErrorKind::NESTED)
+    }
+}
+
+/// Reports an error that was noted, and continues.
+fn report_noted(emitter: &mut Emitter) {
+    if let Some(Problem::Error(error)) = emitter.code.trouble.take() {
+        emitter.report(error);
+    }
+}
+
+fn report_at(emitter: &mut Emitter, span: Span, kind: ErrorKind) {
+    emitter.report(Error::at(span, kind))
+}
+
+fn report_about(emitter: &mut Emitter, span: Span, kind: ErrorKind, about: About) {
+    emitter.report(Error { span, kind, about })
+}
+
+/// Reports a name which is declared already.
+fn check_new(emitter: &mut Emitter, tree: &Tree<'_>, span: Span) {
+    let word = tree.word(span);
+    match emitter.program.declared(tree, word) {
+        Some((kind, line)) => report_about(emitter, span, kind, About::number(line)),
+        None => {}
+    }
+}
+
+/// Declares what other declarations may use.
+fn declare_name(emitter: &mut Emitter, tree: &Tree<'_>, declaration: Declaration) {
+    let name = declaration.span;
+    if let DeclarationKind::Fail(block) = declaration.kind {
+        return declare_fail(emitter, tree, name, block);
+    }
+    check_new(emitter, tree, name);
+    match declaration.kind {
+        DeclarationKind::Constant(expression) => add_constant(emitter, name, expression),
+        DeclarationKind::Struct(_) => add_struct(emitter, name),
+        DeclarationKind::Function {
+            parameters,
+            gives_number,
+            body,
+        } => add_function(
+            emitter,
+            Function {
+                name,
+                parameters,
+                gives_number,
+                body,
+            },
+        ),
+        kind => add_object(emitter, tree, name, object_kind(kind)),
+    }
+}
+
+fn add_constant(emitter: &mut Emitter, name: Span, expression: ExpressionAt) {
+    let constant = NamedValue {
+        name,
+        expression,
+        value: None,
+    };
+    append(
+        &mut emitter.program.values,
+        constant,
+        &mut emitter.code.trouble,
+    )
+}
+
+fn add_struct(emitter: &mut Emitter, name: Span) {
+    let added = StructType {
+        name,
+        first: 0,
+        end: 0,
+    };
+    append(
+        &mut emitter.program.types.structs,
+        added,
+        &mut emitter.code.trouble,
+    )
+}
+
+fn add_function(emitter: &mut Emitter, function: Function) {
+    append(
+        &mut emitter.program.functions,
+        function,
+        &mut emitter.code.trouble,
+    )
+}
+
+fn add_object(emitter: &mut Emitter, tree: &Tree<'_>, name: Span, kind: ObjectKind) {
+    let word = tree.word(name);
+    let constant = emitter.code.constant(constant_kind(kind), word);
+    let object = Object {
+        name,
+        kind,
+        value_type: TypeAt::INT,
+        constant,
+        is_used: false,
+    };
+    append(
+        &mut emitter.program.objects,
+        object,
+        &mut emitter.code.trouble,
+    )
+}
+
+fn declare_fail(emitter: &mut Emitter, tree: &Tree<'_>, span: Span, block: Block) {
+    if emitter.program.fail.is_some() {
+        return report_at(emitter, span, ErrorKind::SECOND_FAIL);
+    }
+    emitter.program.fail = Some(block);
+    check_leaving(emitter, tree, block)
+}
+
+/// Reports what would leave the statement that a `fail` part is used in.
+fn check_leaving(emitter: &mut Emitter, tree: &Tree<'_>, block: Block) {
+    let mut waiting = Vec::new(emitter.alloc);
+    add(&mut waiting, block, false, &mut emitter.code.trouble);
+    for _ in 0..MOST_BLOCKS {
+        let Some(inner) = waiting.pop() else {
+            return;
+        };
+        check_statements(
+            emitter,
+            tree,
+            &mut waiting,
+            inner.block.statements,
+            inner.is_in_loop,
+        );
+        check_statements(
+            emitter,
+            tree,
+            &mut waiting,
+            inner.block.following,
+            inner.is_in_loop,
+        );
+    }
+}
+
+fn check_statements(
+    emitter: &mut Emitter,
+    tree: &Tree<'_>,
+    waiting: &mut Vec<Inner>,
+    range: Range,
+    is_in_loop: bool,
+) {
+    for statement in tree.statements(range) {
+        let leaves = match statement.kind {
+            StatementKind::Return(_) => true,
+            StatementKind::Break | StatementKind::Continue => !is_in_loop,
+            _ => false,
+        };
+        if leaves {
+            report_at(emitter, statement.span, ErrorKind::LEAVES_FAIL);
+        }
+        if let Some(body) = statement.body {
+            let is_inside = is_in_loop || is_loop(statement.kind);
+            add(waiting, body, is_inside, &mut emitter.code.trouble);
+        }
+        if let Some(part) = statement.otherwise {
+            add(waiting, part.block, is_in_loop, &mut emitter.code.trouble);
+        }
+    }
+}
+
+/// Works out the constants, in any order.
+fn find_values(emitter: &mut Emitter, tree: &Tree<'_>) {
+    for _ in 0..emitter.program.values.len() {
+        if !find_more_values(emitter, tree) {
+            break;
+        }
+    }
+    for at in 0..emitter.program.values.len() {
+        let _ = find_value(emitter, tree, at, true);
+    }
+}
+
+/// Works out the constants that depend on known ones. Returns false if there aren't any.
+fn find_more_values(emitter: &mut Emitter, tree: &Tree<'_>) -> bool {
+    let mut finds = false;
+    for at in 0..emitter.program.values.len() {
+        finds = find_value(emitter, tree, at, false) || finds;
+    }
+    finds
+}
+
+/// Works out a constant, if it has no value yet. Returns whether it gets one.
+fn find_value(emitter: &mut Emitter, tree: &Tree<'_>, at: usize, reports: bool) -> bool {
+    let Some(found) = emitter.program.values.get(at).copied() else {
+        return false;
+    };
+    if found.value.is_some() {
+        return false;
+    }
+    match emitter
+        .program
+        .fold(tree, &emitter.names, found.expression, MOST_DEPTH)
+    {
+        Ok(value) => {
+            if let Some(found) = emitter.program.values.get_mut(at) {
+                found.value = Some(value);
+            }
+            true
+        }
+        Err(error) => {
+            if reports {
+                emitter.report(error);
+            }
+            false
+        }
+    }
+}
+
+/// Declares the fields of a struct.
+fn declare_fields(emitter: &mut Emitter, tree: &Tree<'_>, declaration: Declaration) {
+    let DeclarationKind::Struct(fields) = declaration.kind else {
+        return;
+    };
+    let written = tree.fields(fields);
+    if written.is_empty() || written.len() > 8 {
+        report_about(
+            emitter,
+            declaration.span,
+            ErrorKind::FIELD_COUNT,
+            About::number(written.len()),
+        );
+    }
+    let first = emitter.program.types.members.len();
+    for field in written {
+        check_field(emitter, tree, field.name, first);
+        add_field(emitter, tree, field.name, field.value_type);
+    }
+    set_fields(&mut emitter.program, tree, declaration.span, first)
+}
+
+fn add_field(emitter: &mut Emitter, tree: &Tree<'_>, name: Span, written: Type) {
+    let value_type = type_or_int(emitter, tree, written);
+    append(
+        &mut emitter.program.types.members,
+        Member { name, value_type },
+        &mut emitter.code.trouble,
+    )
+}
+
+/// The fields from a position on are those of the struct with this name.
+fn set_fields(program: &mut Program, tree: &Tree<'_>, name: Span, first: usize) {
+    let end = program.types.members.len();
+    let word = tree.word(name);
+    if let Some(StructAt(at)) = program.types.struct_named(tree, word) {
+        if let Some(found) = program.types.structs.get_mut(at) {
+            found.first = first;
+            found.end = end;
+        }
+    }
+}
+
+/// Reports a second field with a name.
+fn check_field(emitter: &mut Emitter, tree: &Tree<'_>, name: Span, first: usize) {
+    for at in first..emitter.program.types.members.len() {
+        if let Some(member) = emitter.program.types.members.get(at).copied() {
+            if tree.word(member.name) == tree.word(name) {
+                return report_at(emitter, name, ErrorKind::DUPLICATE_FIELD);
+            }
+        }
+    }
+}
+
+/// The type that is written, or `int` if a struct in it isn't declared.
+fn type_or_int(emitter: &mut Emitter, tree: &Tree<'_>, written: Type) -> TypeAt {
+    match emitter.written_type(tree, written) {
+        Ok(found) => found,
+        Err(span) => {
+            let near = near_struct(&emitter.program, tree, tree.word(span));
+            report_about(emitter, span, ErrorKind::NO_TYPE, About::near(near));
+            TypeAt::INT
+        }
+    }
+}
+
+/// Reports each field by which a struct would lie in itself. Its type becomes `int`.
+fn check_structs(emitter: &mut Emitter) {
+    for at in 0..emitter.program.types.structs.len() {
+        let Some(found) = emitter.program.types.structs.get(at).copied() else {
+            continue;
+        };
+        for member in found.first..found.end {
+            if lies_in(emitter, member, StructAt(at)) {
+                cut_field(emitter, member);
+            }
+        }
+    }
+}
+
+fn cut_field(emitter: &mut Emitter, member: usize) {
+    let Some(found) = emitter.program.types.members.get_mut(member) else {
+        return;
+    };
+    found.value_type = TypeAt::INT;
+    let span = found.name;
+    report_at(emitter, span, ErrorKind::CONTAINS_ITSELF)
+}
+
+/// Whether a field's value contains a struct, without an `own` or a container between.
+fn lies_in(emitter: &mut Emitter, member: usize, wanted: StructAt) -> bool {
+    let mut waiting = Vec::new(emitter.alloc);
+    add_member(&mut waiting, member, &mut emitter.code.trouble);
+    for _ in 0..MOST_BLOCKS {
+        let Some(member) = waiting.pop() else {
+            return false;
+        };
+        if let Some(inner) = struct_of(&emitter.program, member) {
+            if inner == wanted {
+                return true;
+            }
+            add_members(emitter, &mut waiting, inner);
+        }
+    }
+    true
+}
+
+/// The struct that a field is.
+fn struct_of(program: &Program, member: usize) -> Option<StructAt> {
+    let found = program.types.members.get(member)?;
+    match program.types.shape(found.value_type) {
+        Shape::Struct(inner) => Some(inner),
+        _ => None,
+    }
+}
+
+fn add_members(emitter: &mut Emitter, waiting: &mut Vec<usize>, at: StructAt) {
+    let Some(found) = emitter.program.types.structs.get(at.0).copied() else {
+        return;
+    };
+    for member in found.first..found.end {
+        add_member(waiting, member, &mut emitter.code.trouble);
+    }
+}
+
+/// Finds the type and the name of an object, and the types of a function's parameters.
+fn declare_object(emitter: &mut Emitter, tree: &Tree<'_>, declaration: Declaration) {
+    match declaration.kind {
+        DeclarationKind::Object {
+            value_type,
+            count,
+            segment_name,
+        } => {
+            let kind = single_or_array(emitter, tree, declaration.span, count);
+            set_object(
+                emitter,
+                tree,
+                declaration.span,
+                value_type,
+                kind,
+                segment_name,
+            )
+        }
+        DeclarationKind::Family {
+            value_type,
+            segment_name,
+        } => set_object(
+            emitter,
+            tree,
+            declaration.span,
+            value_type,
+            ObjectKind::Family,
+            segment_name,
+        ),
+        DeclarationKind::Unique(value_type) => {
+            set_object(
+                emitter,
+                tree,
+                declaration.span,
+                value_type,
+                ObjectKind::Unique,
+                None,
+            )
+        }
+        DeclarationKind::Function { parameters, .. } => check_parameters(emitter, tree, parameters),
+        DeclarationKind::Constant(_) | DeclarationKind::Struct(_) | DeclarationKind::Fail(_) => {}
+    }
+}
+
+/// Finds the types of a function's parameters.
+fn check_parameters(emitter: &mut Emitter, tree: &Tree<'_>, parameters: Range) {
+    for field in tree.fields(parameters) {
+        let _ = type_or_int(emitter, tree, field.value_type);
+    }
+}
+
+fn single_or_array(
+    emitter: &mut Emitter,
+    tree: &Tree<'_>,
+    span: Span,
+    count: Option<ExpressionAt>,
+) -> ObjectKind {
+    let Some(count) = count else {
+        return ObjectKind::Single;
+    };
+    match emitter.needed_number(tree, count) {
+        count if count >= 1 && count <= 65_535 => ObjectKind::Array(count),
+        _ => {
+            emitter.error(span, ErrorKind::ARRAY_LENGTH);
+            ObjectKind::Single
+        }
+    }
+}
+
+fn set_object(
+    emitter: &mut Emitter,
+    tree: &Tree<'_>,
+    span: Span,
+    written: Type,
+    kind: ObjectKind,
+    segment_name: Option<Range>,
+) {
+    let value_type = type_or_int(emitter, tree, written);
+    let name = match segment_name {
+        Some(bytes) => tree.bytes(bytes),
+        None => tree.word(span),
+    };
+    let longest = if kind == ObjectKind::Family {
+        LONGEST_FAMILY
+    } else {
+        LONGEST_NAME
+    };
+    if kind != ObjectKind::Unique && !is_segment_name(name, longest) {
+        report_about(
+            emitter,
+            span,
+            ErrorKind::SEGMENT_NAME,
+            About::number(longest),
+        );
+    }
+    let constant = emitter.code.constant(constant_kind(kind), name);
+    let Some(at) = emitter.program.object_named(tree, tree.word(span)) else {
+        return;
+    };
+    if let Some(object) = emitter.program.objects.get_mut(at) {
+        object.value_type = value_type;
+        object.kind = kind;
+        object.constant = constant;
+    }
+}
+
+/// A block that is visited, and whether it is in a loop.
+#[derive(Clone, Copy)]
+struct Inner {
+    block: Block,
+    is_in_loop: bool,
+}
+
+/// A block that is visited, and how many blocks it is in, with itself.
+#[derive(Clone, Copy)]
+struct Nested {
+    block: Block,
+    depth: usize,
+}
+
+fn add_nested_block(waiting: &mut Vec<Nested>, block: Block, depth: usize, trouble: &mut Trouble) {
+    append(waiting, Nested { block, depth }, trouble);
+}
+
+fn add(waiting: &mut Vec<Inner>, block: Block, is_in_loop: bool, trouble: &mut Trouble) {
+    append(waiting, Inner { block, is_in_loop }, trouble);
+}
+
+fn is_loop(kind: StatementKind) -> bool {
+    matches!(
+        kind,
+        StatementKind::For { .. } | StatementKind::While { .. }
+    )
+}
+
+fn add_member(waiting: &mut Vec<usize>, member: usize, trouble: &mut Trouble) {
+    append(waiting, member, trouble);
+}
+
+/// The kind of a declared object. The length of an array isn't known yet.
+fn object_kind(kind: DeclarationKind) -> ObjectKind {
+    match kind {
+        DeclarationKind::Object { count: Some(_), .. } => ObjectKind::Array(1),
+        DeclarationKind::Family { .. } => ObjectKind::Family,
+        DeclarationKind::Unique(_) => ObjectKind::Unique,
+        _ => ObjectKind::Single,
+    }
+}
+
+/// Whether the segment allows a name.
+fn is_segment_name(name: &[u8], longest: usize) -> bool {
+    if name.is_empty() || name.len() > longest {
+        return false;
+    }
+    for byte in name {
+        if !matches!(*byte, b'!'..=b'~') || *byte == b'#' {
+            return false;
+        }
+    }
+    true
+}
