@@ -1,6 +1,6 @@
-//! Tests of everything that runs clients: the interpreter, over both allocators and both indexes, with its traces. The other
-//! modules have lemmas and small examples about the results of the checker and of runs. Their functions do nothing: their
-//! `ensures` clauses are the lemmas.
+//! Tests of everything that runs clients: the interpreter, over both allocators and both indexes, with its traces, and hosts that
+//! embed the library. The other modules have lemmas and small examples about the results of the checker and of runs. Their
+//! functions do nothing: their `ensures` clauses are the lemmas.
 #![tactic(auto)]
 
 pub mod faults;

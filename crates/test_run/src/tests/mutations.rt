@@ -1,6 +1,6 @@
 //! Images with changed bytes, each of which is refused or can be used.
 
-use crate::tests::clients::opened;
+use crate::tests::open_images::opened;
 use lezgauri::{Image, ImageRead};
 use std::alloc::Global;
 use std::test::Fail;

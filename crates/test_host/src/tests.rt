@@ -1,5 +1,0 @@
-mod clients;
-mod lent;
-mod memory;
-mod mutations;
-mod uses;
