@@ -1,9 +1,11 @@
 //! From a program's text to a client, or to lines that tell what is wrong.
 
+use crate::compiler::Translation;
 use crate::entry::translate;
+use crate::failure::{Failure, Wrong};
 use crate::report::Report;
+use crate::variables::VariableChange;
 use client_code::TypeTable;
-use script_blocks::{Failure, Translation, VariableChange, Wrong};
 use script_code::Warning;
 use script_syntax::{Span, Tree, parse};
 use std::alloc::{AllocError, Global};

@@ -1,8 +1,9 @@
 //! From the tree of a program to its client: the loop that does one task after the other.
 
+use crate::compiler::{Compiler, Translation};
+use crate::failure::Failure;
 use crate::perform::perform;
 use client_code::TypeTable;
-use script_blocks::{Compiler, Failure, Translation};
 use script_code::{Code, Compiled, Error, ErrorKind, NOWHERE, Program, Types};
 use script_syntax::Tree;
 use script_values::declare;

@@ -1,6 +1,7 @@
 //! Loops. Each is one `WHILE`, whose body is compiled until it ends as it begins.
 
-use script_blocks::{Compiler, Construct, ConstructKind, leave_flat};
+use crate::arguments::leave_flat;
+use crate::compiler::{Compiler, Construct, ConstructKind};
 use script_code::{COUNT, Code, ErrorKind, Known, Names, Register, append};
 use script_places::{Loop, Task, Turn};
 use script_statements::loops::{begin_turn, next_item, test_index};

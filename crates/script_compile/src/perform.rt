@@ -1,8 +1,9 @@
 //! Which function does which task, and which begins which statement.
 
+use crate::compiler::Compiler;
 use crate::loops::{begin_loop, end_loop, next_turn};
+use crate::nests::NestKind;
 use crate::tasks;
-use script_blocks::{Compiler, NestKind};
 use script_code::ErrorKind;
 use script_places::Task;
 use script_statements::changes::begin_method;

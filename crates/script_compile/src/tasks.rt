@@ -1,6 +1,6 @@
 //! Which function does which task that needs no more than the emitter.
 
-use script_blocks::{end_rest, guard_rest};
+use crate::arguments::{end_rest, guard_rest};
 use script_code::Meaning;
 use script_places::{Emitter, Output, Task, close_noting, tell_no_room};
 use script_statements::{changes, lookups, loops, pushes, removals};
