@@ -241,7 +241,7 @@ pub enum Task {
 }
 
 /// How a task ends a part.
-#[derive(Clone, Copy, PartialEq, Eq)]
+#[derive(Clone, Copy)]
 pub enum PartEnd {
     /// It begins the else part.
     Success,
