@@ -396,28 +396,32 @@ Each command takes --explain, which explains its failure.";
 
 /// The parser of `segtool`'s command line.
 pub fn command_line<'a>(alloc: Global) -> Result<Command<'a>, AllocError> {
-    let program = Command::new(alloc, "segtool")
+    let mut commands = Vec::new(alloc);
+    add_commands(alloc, &mut commands, running())?;
+    add_commands(alloc, &mut commands, content())?;
+    add_commands(alloc, &mut commands, heap_and_clients())?;
+    program(alloc).subcommands(commands)
+}
+
+fn program<'a>(alloc: Global) -> Command<'a> {
+    Command::new(alloc, "segtool")
         .version(VERSION)
         .about("Checks images of managed segments, and runs verified clients on them")
         .after_help(STATUSES)
         .subcommand_required(true)
-        .arg_required_else_help(true);
-    let program = with_commands(alloc, program, running())?;
-    let program = with_commands(alloc, program, content())?;
-    with_commands(alloc, program, heap_and_clients())
+        .arg_required_else_help(true)
 }
 
 /// Adds the commands of a table.
-fn with_commands<'a>(
+fn add_commands<'a>(
     alloc: Global,
-    program: Command<'a>,
+    commands: &mut Vec<Command<'a>>,
     table: &'static [CommandRow],
-) -> Result<Command<'a>, AllocError> {
-    let mut program = program;
+) -> Result<(), AllocError> {
     for line in table {
-        program = program.subcommand(command(alloc, line)?)?;
+        commands.push(command(alloc, line)?)?;
     }
-    Ok(program)
+    Ok(())
 }
 
 fn running() -> &'static [CommandRow] {
