@@ -21,4 +21,5 @@ mod tiles;
 mod trees;
 mod types;
 mod values;
+mod verbs;
 mod windows;

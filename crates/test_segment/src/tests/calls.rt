@@ -18,6 +18,7 @@ use crate::tests::changing::change;
 use crate::tests::image::type_id;
 use crate::tests::reading::read;
 use crate::tests::support::opened;
+use crate::tests::verbs::{Verb, verb_of};
 use seg_image::{AllocatorKind, Fields, Image, IndexKind, Place, Type, TypeId, type_table};
 use std::alloc::Global;
 use std::test::Fail;
@@ -59,8 +60,7 @@ type Places = [Place; 26];
 /// A call, with its arguments by what they are. A line has at most one name, type and number, and two places.
 #[derive(Clone, Copy)]
 pub(crate) struct Call<'a> {
-    /// The call.
-    pub(crate) word: &'a str,
+    pub(crate) verb: Verb,
     pub(crate) name: &'a [u8],
     pub(crate) t: TypeId,
     pub(crate) number: Option<i64>,
@@ -75,14 +75,14 @@ pub(crate) struct Call<'a> {
 }
 
 impl<'a> Call<'a> {
-    /// The call of a line, where `t` is this type.
-    fn of(line: &'a str, places: &Places, t: TypeId) -> Call<'a> {
+    /// The call of a line, where `t` is this type. `None` if there is no such call.
+    fn of(line: &'a str, places: &Places, t: TypeId) -> Option<Call<'a>> {
         let (line, told) = line.split_once("=>").unwrap_or((line, ""));
         let (line, text) = line.split_once(':').unwrap_or((line, ""));
         let (letter, line) = line.split_once(" = ").unwrap_or(("", line));
         let (word, arguments) = line.trim().split_once(' ').unwrap_or((line.trim(), ""));
         let mut call = Call {
-            word,
+            verb: verb_of(word)?,
             name: b"",
             t,
             number: None,
@@ -98,7 +98,7 @@ impl<'a> Call<'a> {
         if call.name.is_empty() {
             call.name = call.text.as_bytes();
         }
-        call
+        Some(call)
     }
 
     fn take(&mut self, argument: &'a str, places: &Places) {
@@ -239,10 +239,10 @@ impl Host {
 
     /// Makes the call of a line.
     fn make(&mut self, alloc: Global, line: &str, t: TypeId) -> Result<(), Fail> {
-        let call = Call::of(line, &self.places, t);
-        let Some(found) = answer(alloc, &mut self.image, &call) else {
+        let Some(call) = Call::of(line, &self.places, t) else {
             return Err(Fail::new(format_args!("not understood: {line}")));
         };
+        let found = answer(alloc, &mut self.image, &call).ok_or("no such image")?;
         if !is_returned(found, call.told, &self.places) {
             let (word, number) = found.parts();
             return Err(Fail::new(format_args!("{line}, not {word} {number}")));

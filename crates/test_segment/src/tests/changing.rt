@@ -1,10 +1,11 @@
 //! The calls that may change an image, and those on its bytes.
 
-use crate::tests::answers::{Answer, count, done, flag, place, size, size_of};
+use crate::tests::answers::{Answer, count, done, flag, number, place, size, size_of};
 use crate::tests::calls::Call;
 use crate::tests::image::is_told;
 use crate::tests::support::opened;
 use crate::tests::tiles::are_live;
+use crate::tests::verbs::Verb;
 use seg_image::{CheckedImage, Code, Fault, Image, ImageRead, Place, check};
 use seg_value::{set_own, take_own};
 use std::alloc::Global;
@@ -12,15 +13,15 @@ use support_data::{counter_saved, sharing};
 
 /// Makes a call. Returns `None` if there is no such call.
 pub(crate) fn change(alloc: Global, image: &mut Image<Global>, call: &Call) -> Option<Answer> {
-    Some(match call.word {
-        "construct" => place(image.construct(call.name, call.t, call.count())),
-        "find_or_construct" => place(image.find_or_construct(call.name, call.t)),
-        "destroy" => flag(image.destroy(call.name, call.t)),
-        "construct_unique" => place(image.construct_unique(call.t)),
-        "find_or_construct_unique" => place(image.find_or_construct_unique(call.t)),
-        "destroy_unique" => flag(image.destroy_unique(call.t)),
-        "construct_anonymous" => place(image.construct_anonymous(call.t)),
-        "destroy_anonymous" => {
+    Some(match call.verb {
+        Verb::Construct => place(image.construct(call.name, call.t, call.count())),
+        Verb::FindOrConstruct => place(image.find_or_construct(call.name, call.t)),
+        Verb::Destroy => flag(image.destroy(call.name, call.t)),
+        Verb::ConstructUnique => place(image.construct_unique(call.t)),
+        Verb::FindOrConstructUnique => place(image.find_or_construct_unique(call.t)),
+        Verb::DestroyUnique => flag(image.destroy_unique(call.t)),
+        Verb::ConstructAnonymous => place(image.construct_anonymous(call.t)),
+        Verb::DestroyAnonymous => {
             image.destroy_anonymous(call.place);
             done(Ok(()))
         }
@@ -29,62 +30,64 @@ pub(crate) fn change(alloc: Global, image: &mut Image<Global>, call: &Call) -> O
 }
 
 fn change_values(alloc: Global, image: &mut Image<Global>, call: &Call) -> Option<Answer> {
-    Some(match call.word {
-        "store" => done(image.store(call.place, call.long())),
-        "clear" => done(image.clear(call.place)),
-        "put_content" => place(image.put_content(call.place)),
-        "set_own" => give(image, call.other, call.place),
-        "take_own" => take(image, call.place),
-        "freeze" => done(image.freeze(call.other, call.place)),
-        "share" => done(image.share(call.other, call.place)),
-        "assign" => done(image.assign(call.place, call.text.as_bytes())),
-        "append" => done(image.append(call.place, call.text.as_bytes())),
-        "push_byte" => push_byte(image, call),
+    Some(match call.verb {
+        Verb::Store => done(image.store(call.place, call.long())),
+        Verb::Clear => done(image.clear(call.place)),
+        Verb::PutContent => place(image.put_content(call.place)),
+        Verb::SetOwn => give(image, call.other, call.place),
+        Verb::TakeOwn => take(image, call.place),
+        Verb::Freeze => done(image.freeze(call.other, call.place)),
+        Verb::Share => done(image.share(call.other, call.place)),
+        Verb::Assign => done(image.assign(call.place, call.text.as_bytes())),
+        Verb::Append => done(image.append(call.place, call.text.as_bytes())),
+        Verb::PushByte => push_byte(image, call),
         _ => return change_containers(alloc, image, call),
     })
 }
 
 fn change_containers(alloc: Global, image: &mut Image<Global>, call: &Call) -> Option<Answer> {
-    Some(match call.word {
-        "push_back" => place(image.push_back(call.place)),
-        "push_front" => place(image.push_front(call.place)),
-        "push_numbers" => done(push_numbers(image, call)),
-        "pop_back" => done(image.pop_back(call.place)),
-        "pop_front" => done(image.pop_front(call.place)),
-        "shrink_to_fit" => done(image.shrink_to_fit(call.place)),
-        "put" => place(image.put(call.place, call.long())),
-        "remove" => flag(image.remove(call.place, call.long())),
-        "next" => neighbour(seg_seq::next(image, call.place.at), call),
-        "previous" => neighbour(seg_seq::previous(image, call.place.at), call),
+    Some(match call.verb {
+        Verb::PushBack => place(image.push_back(call.place)),
+        Verb::PushFront => place(image.push_front(call.place)),
+        Verb::PushNumbers => done(push_numbers(image, call)),
+        Verb::PopBack => done(image.pop_back(call.place)),
+        Verb::PopFront => done(image.pop_front(call.place)),
+        Verb::ShrinkToFit => done(image.shrink_to_fit(call.place)),
+        Verb::Put => place(image.put(call.place, call.long())),
+        Verb::Remove => flag(image.remove(call.place, call.long())),
+        Verb::FirstInTurn => first_in_turn(image, call.place),
+        Verb::NextInTurn => next_in_turn(image, call.place, call.long()),
+        Verb::Next => neighbour(seg_seq::next(image, call.place.at), call),
+        Verb::Previous => neighbour(seg_seq::previous(image, call.place.at), call),
         _ => return change_memory(alloc, image, call),
     })
 }
 
 fn change_memory(alloc: Global, image: &mut Image<Global>, call: &Call) -> Option<Answer> {
-    Some(match call.word {
-        "size" => size_of(image.size()),
-        "free_memory" => size_of(image.free_memory()),
-        "largest_gap" => size_of(image.largest_gap()),
-        "shrink" => size_of(image.shrink()),
-        "grow" => grow(image, call),
-        "zero_free_memory" => {
+    Some(match call.verb {
+        Verb::Size => size_of(image.size()),
+        Verb::FreeMemory => size_of(image.free_memory()),
+        Verb::LargestGap => size_of(image.largest_gap()),
+        Verb::Shrink => size_of(image.shrink()),
+        Verb::Grow => grow(image, call),
+        Verb::ZeroFreeMemory => {
             image.zero_free_memory();
             done(Ok(()))
         }
-        "all_memory_deallocated" => flag(image.all_memory_deallocated()),
+        Verb::AllMemoryDeallocated => flag(image.all_memory_deallocated()),
         _ => return on_bytes(alloc, image, call),
     })
 }
 
 /// Calls on the bytes of an image, and comparisons of its blocks and places.
 fn on_bytes(alloc: Global, image: &mut Image<Global>, call: &Call) -> Option<Answer> {
-    Some(match call.word {
-        "types" => count(image.types().len()),
-        "fault" => flag(has_fault(alloc, image.bytes(), call.text)),
-        "reopen" => flag(reopen(alloc, image)?),
-        "saves" => flag(saves(alloc, image, call.text)?),
-        "blocks" => flag(are_live(image.window(), call.text)),
-        "distance" => size_of(call.place.at.wrapping_sub(call.other.at)),
+    Some(match call.verb {
+        Verb::Types => count(image.types().len()),
+        Verb::Fault => flag(has_fault(alloc, image.bytes(), call.text)),
+        Verb::Reopen => flag(reopen(alloc, image)?),
+        Verb::Saves => flag(saves(alloc, image, call.text)?),
+        Verb::Blocks => flag(are_live(image.window(), call.text)),
+        Verb::Distance => size_of(call.place.at.wrapping_sub(call.other.at)),
         _ => return None,
     })
 }
@@ -138,6 +141,22 @@ fn push_numbers(image: &mut Image<Global>, call: &Call) -> Result<(), Code> {
         image.push_number(vector, word.parse().unwrap_or(0))?;
     }
     Ok(())
+}
+
+/// The first key of a map. The segment remembers where it is.
+fn first_in_turn(image: &mut Image<Global>, map: Place) -> Answer {
+    number(match image {
+        Image::Seq(segment) => segment.first_key(map),
+        Image::Best(segment) => segment.first_key(map),
+    })
+}
+
+/// The key after another one, beside which the segment may be already.
+fn next_in_turn(image: &mut Image<Global>, map: Place, after: i64) -> Answer {
+    number(match image {
+        Image::Seq(segment) => segment.next_key(map, after),
+        Image::Best(segment) => segment.next_key(map, after),
+    })
 }
 
 /// The item beside an item of a list.

@@ -279,6 +279,22 @@ next_key M 2 => 3
 remove M 4
 next_key M 3 => 5
 next_key M 7 => null
+
+; the same if the segment remembers where it is
+$ new 4096 t4 t5
+M = construct_unique t
+put M 4
+put M 2
+put M 6
+put M 1
+put M 3
+put M 5
+put M 7
+first_in_turn M => 1
+next_in_turn M 2 => 3
+remove M 4
+next_in_turn M 3 => 5
+next_in_turn M 7 => null
 ";
 
 /// Frozen objects and the cells that share them.

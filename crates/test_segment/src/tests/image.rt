@@ -149,11 +149,12 @@ impl ImageBuilder {
             return self.push(payload, number(words)?, 0, 0);
         }
         let (t, units) = words.split_once(' ')?;
-        let t = type_id(t)?;
+        let (t, units) = (type_id(t)?, number(units)?);
         if kind == "unique" {
             self.w.point(UNIQUES + 4 * usize::from(t), Some(payload));
+            return self.push(payload, units, LIVE, tag_of("object", t)?);
         }
-        self.push(payload, number(units)?, LIVE, tag_of(kind, t)?)
+        self.push(payload, units, LIVE, tag_of(kind, t)?)
     }
 
     /// Adds a block at the end of the heap.
@@ -198,7 +199,7 @@ impl ImageBuilder {
 pub(crate) fn entry_of(words: &str) -> Option<[u8; ENTRY]> {
     let mut words = words.split_whitespace();
     let mut entry = [0; ENTRY];
-    entry[0] = type_kind(words.next()?)?;
+    entry[0] = kind_of(words.next()?, &TYPE_KINDS)?;
     for part in words {
         let parts = entry[1];
         *entry.get_mut(usize::from(parts) + 2)? = type_id(part)?;
@@ -207,41 +208,36 @@ pub(crate) fn entry_of(words: &str) -> Option<[u8; ENTRY]> {
     Some(entry)
 }
 
-/// The kind of a type, as in its entry. There is no type of the last kind.
-fn type_kind(word: &str) -> Option<u8> {
-    Some(match word {
-        "unused" => 0,
-        "i64" => 1,
-        "str" => 2,
-        "vec" => 3,
-        "list" => 4,
-        "flat_map" => 5,
-        "map" => 6,
-        "own" => 7,
-        "struct" => 8,
-        "shared" => 9,
-        "unknown" => 10,
-        _ => return None,
-    })
-}
+/// The kinds of types, by their numbers in entries. There is no type of the last kind.
+static TYPE_KINDS: [&str; 11] = [
+    "unused", "i64", "str", "vec", "list", "flat_map", "map", "own", "struct", "shared", "unknown",
+];
 
 /// The tag of an allocated block.
 fn tag_of(kind: &str, t: u8) -> Option<u32> {
-    Some(u32::from(block_kind(kind)?) + 256 * u32::from(t))
+    Some(u32::from(kind_of(kind, &BLOCK_KINDS)?) + 256 * u32::from(t))
 }
 
-/// The kind of an allocated block, as in its tag. A `unique` is an object too.
-fn block_kind(word: &str) -> Option<u8> {
-    Some(match word {
-        "named" => 1,
-        "object" | "unique" => 2,
-        "buffer" => 3,
-        "node" => 4,
-        "index" => 5,
-        "index_node" => 6,
-        "frozen" => 7,
-        _ => return None,
-    })
+/// The kinds of allocated blocks, by their numbers in tags. There is no block of the first kind.
+static BLOCK_KINDS: [&str; 8] = [
+    "none",
+    "named",
+    "object",
+    "buffer",
+    "node",
+    "index",
+    "index_node",
+    "frozen",
+];
+
+/// The number of a kind in a list of kinds.
+fn kind_of(word: &str, kinds: &[&str]) -> Option<u8> {
+    for number in 0..kinds.len() {
+        if kinds[number] == word {
+            return u8::try_from(number).ok();
+        }
+    }
+    None
 }
 
 pub(crate) fn type_id(word: &str) -> Option<u8> {

@@ -9,7 +9,7 @@ use std::test::Fail;
 use support_data::{counter, counter_saved, is_true};
 
 /// A call that allocates host memory: on a segment in a window, or on an image.
-#[derive(Debug, Clone, Copy)]
+#[derive(Clone, Copy)]
 enum Call {
     Region,
     Check,
@@ -118,21 +118,21 @@ fn refusals_of(alloc: Global, call: Call) -> Result<usize, Fail> {
 
 // Calls, and how many units of 16 bytes each needs at least. The image of 784 bytes takes 49 units. A call on an image needs memory
 // for what it works on and for what it makes.
-static CALLS: [(Call, usize); 8] = [
-    (Call::Region, 1),
-    (Call::Check, 1),
-    (Call::Open, 1),
-    (Call::Save, 1),
-    (Call::CreateImage, 63),
-    (Call::OpenImage, 49),
-    (Call::SaveImage, 97),
-    (Call::GrowImage, 148),
+static CALLS: [(&str, Call, usize); 8] = [
+    ("a region", Call::Region, 1),
+    ("check", Call::Check, 1),
+    ("open", Call::Open, 1),
+    ("save", Call::Save, 1),
+    ("create an image", Call::CreateImage, 63),
+    ("open an image", Call::OpenImage, 49),
+    ("save an image", Call::SaveImage, 97),
+    ("grow an image", Call::GrowImage, 148),
 ];
 
 #[test]
 fn calls_answer_memory_until_there_is_enough(rt: HostRuntime) -> Result<(), Fail> {
-    for (call, least) in &CALLS {
-        assert!(rt; refusals_of(rt.alloc(), *call)? >= *least, "{call:?}");
+    for (name, call, least) in &CALLS {
+        assert!(rt; refusals_of(rt.alloc(), *call)? >= *least, "{name}");
     }
     Ok(())
 }

@@ -2,6 +2,7 @@
 
 use crate::tests::answers::{Answer, count, flag, flag_or_code, number, place, size};
 use crate::tests::calls::{Call, is_written};
+use crate::tests::verbs::Verb;
 use seg_image::{CheckedImage, Code, Image, ImageRead, Named};
 use std::alloc::Global;
 
@@ -22,42 +23,44 @@ fn reads_the_same(checked: &CheckedImage, call: &Call, found: Answer) -> bool {
 }
 
 fn read_objects<S: ImageRead>(image: &S, call: &Call) -> Option<Answer> {
-    Some(match call.word {
-        "find" => place(image.find(call.name, call.t)),
-        "find_item" => place(image.find_item(call.name, call.t, call.size())),
-        "find_unique" => place(image.find_unique(call.t)),
-        "count" => size(ImageRead::count(image, call.name, call.t).map(|count| u32::from(count))),
-        "num_unique" => count(image.num_unique()),
-        "names" => flag(are_named(image, call.text)),
-        "is_named" => flag(image.named_object(call.name).is_some()),
+    Some(match call.verb {
+        Verb::Find => place(image.find(call.name, call.t)),
+        Verb::FindItem => place(image.find_item(call.name, call.t, call.size())),
+        Verb::FindUnique => place(image.find_unique(call.t)),
+        Verb::Count => size(ImageRead::count(image, call.name, call.t).map(|count| u32::from(
+            count,
+        ))),
+        Verb::NumUnique => count(image.num_unique()),
+        Verb::Names => flag(are_named(image, call.text)),
+        Verb::IsNamed => flag(image.named_object(call.name).is_some()),
         _ => return read_values(image, call),
     })
 }
 
 fn read_values<S: ImageRead>(image: &S, call: &Call) -> Option<Answer> {
-    Some(match call.word {
-        "load" => number(ImageRead::load(image, call.place)),
-        "field" => place(image.field(call.place, call.size())),
-        "content" => place(ImageRead::content(image, call.place)),
-        "frozen" => place(image.frozen(call.place)),
-        "text" => flag_or_code(is_text(image.text(call.place), call.text)),
-        "len" => size(ImageRead::len(image, call.place)),
-        "item" => place(image.item(call.place, call.size())),
-        "items" => flag_or_code(are_items(image, call)),
-        "number_bytes" => flag_or_code(are_bytes(image.number_bytes(call.place), call.text)),
+    Some(match call.verb {
+        Verb::Load => number(ImageRead::load(image, call.place)),
+        Verb::Field => place(image.field(call.place, call.size())),
+        Verb::Content => place(ImageRead::content(image, call.place)),
+        Verb::Frozen => place(image.frozen(call.place)),
+        Verb::Text => flag_or_code(is_text(image.text(call.place), call.text)),
+        Verb::Len => size(ImageRead::len(image, call.place)),
+        Verb::Item => place(image.item(call.place, call.size())),
+        Verb::Items => flag_or_code(are_items(image, call)),
+        Verb::NumberBytes => flag_or_code(are_bytes(image.number_bytes(call.place), call.text)),
         _ => return read_maps(image, call),
     })
 }
 
 fn read_maps<S: ImageRead>(image: &S, call: &Call) -> Option<Answer> {
-    Some(match call.word {
-        "get" => place(image.get(call.place, call.long())),
-        "first_key" => number(image.first_key(call.place)),
-        "last_key" => number(image.last_key(call.place)),
-        "next_key" => number(image.next_key(call.place, call.long())),
-        "previous_key" => number(image.previous_key(call.place, call.long())),
-        "keys" => flag_or_code(are_keys(image, call)),
-        "entries" => flag_or_code(are_entries(image, call)),
+    Some(match call.verb {
+        Verb::Get => place(image.get(call.place, call.long())),
+        Verb::FirstKey => number(image.first_key(call.place)),
+        Verb::LastKey => number(image.last_key(call.place)),
+        Verb::NextKey => number(image.next_key(call.place, call.long())),
+        Verb::PreviousKey => number(image.previous_key(call.place, call.long())),
+        Verb::Keys => flag_or_code(are_keys(image, call)),
+        Verb::Entries => flag_or_code(are_entries(image, call)),
         _ => return None,
     })
 }

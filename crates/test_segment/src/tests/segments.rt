@@ -1,5 +1,5 @@
-//! Calls that an image doesn't have: new segments, growth in a region, a new image written by hand, deep values, values that move,
-//! and keys in turn.
+//! Calls that an image doesn't have: new segments, growth in a region, a new image written by hand, deep values, and values that
+//! move.
 
 use crate::tests::support::{first_fault, place_of, segment, segment_in, used_region};
 use crate::tests::tiles::are_live;
@@ -9,7 +9,6 @@ use seg_manager::{
     Code, Fault, IndexKind, Segment, TypeId, all_memory_deallocated, create, free_memory, grow,
     largest_gap, shrink_to_fit, zero_free_memory,
 };
-use seg_map::{put, remove};
 use seg_seq::assign;
 use seg_seqfit::SeqFit;
 use seg_value::{Content, Heap, Place, freeze, frozen, set_own, share, take_own};
@@ -197,24 +196,5 @@ fn shifted_values_read_the_same(rt: HostRuntime) -> Result<(), Fail> {
     is_true(is_text_at(heap, 728)).expect(&rt, "forward");
     heap.shift(2, 728, 720, 1);
     is_true(is_text_at(heap, 720)).expect(&rt, "back");
-    Ok(())
-}
-
-/// Goes through the keys of a map, of which one is removed on the way. The segment remembers where it was.
-fn keys_of(segment: &mut Segment<SeqFit, Global>) -> Result<[Result<i64, Code>; 4], Code> {
-    for key in [4, 2, 6, 1, 3, 5, 7] {
-        put(segment.heap_mut(), ROOT, key)?;
-    }
-    let (first, third) = (segment.first_key(ROOT), segment.next_key(ROOT, 2));
-    remove(segment.heap_mut(), ROOT, 4);
-    let (fifth, last) = (segment.next_key(ROOT, 3), segment.next_key(ROOT, 7));
-    Ok([first, third, fifth, last])
-}
-
-#[test]
-fn keys_follow_one_another(rt: HostRuntime) -> Result<(), Fail> {
-    let mut segment = rooted(rt.alloc(), "i64, map t0")?;
-    let keys = keys_of(&mut segment)?;
-    equal(keys, [Ok(1), Ok(3), Ok(5), Err(Code::Null)]).expect(&rt, "keys");
     Ok(())
 }
