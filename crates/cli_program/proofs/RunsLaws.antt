@@ -5,7 +5,7 @@ use Rattle.client_verify.specs.declared.refused.Refused.{Refused}
 use Rattle.client_vm.specs.declared.report.Report.{Report}
 use Rattle.client_vm.specs.declared.report.Ended.{Ended}
 use Rattle.client_vm.specs.declared.report.Ended.TheVariants.{Done, OutputFailed}
-use Rattle.client_vm.specs.Jobs.{effect_at}
+use Rattle.client_vm.specs.Jobs.{Effect, effect_at, job_at}
 use Rattle.client_vm.specs.Outcomes.{HasOutcome}
 use Rattle.cli_host.specs.Accesses.{Access, AddsAccesses, access, accesses_of}
 use Rattle.cli_host.proofs.AccessesLaws.{adds_both}
@@ -13,7 +13,7 @@ use Rattle.cli_host.specs.declared.run.Run.{Run}
 use Rattle.cli_program.specs.declared.failure.Failure.{Failure}
 use Rattle.cli_program.specs.declared.failure.Failure.TheVariants as failure
 use Rattle.cli_program.specs.Failures.{IsUnsaved, out_of_memory}
-use Rattle.cli_program.specs.Runs.{Read, WasRead, input_read, job_of_run, IsRefusal, IsRefusedRun, HasSaved, HasFailed, HasSavedOf, HasFailedOf}
+use Rattle.cli_program.specs.Runs.{Read, WasRead, input_read, job_of_run, IsRefusal, IsRefusedRun, HasSaved, HasFailed, HasSavedOf, HasFailedOf, room_of}
 
 pub all_read : (run : Run) (it : Read) (before first second after : Option (List Access)) → AddsAccesses before first (access run.image.now it.image ∷ []) → length it.texts ≡ length run.clients.items
     → AddsAccesses first second (accesses_of (map (λ client. client.now) run.clients.items) it.texts) → IfNone run.input (it.input ≡ []) → AddsAccesses second after (input_read run.input it.input) → WasRead run before after it
@@ -25,6 +25,12 @@ all_read run it before first second after image same texts none input =
       no_input = none;
       accesses = adds_both before first after (access run.image.now it.image ∷ []) (named ++ rest) image (adds_both first second after named rest texts input);
     }
+
+-- an outcome on equal texts and input, in an equal room and at an equal base
+pub outcome_as : (run : Run) (it : Read) (texts : List (List ℕ)) (input : List ℕ) (room base : ℕ) (effect : Effect) → HasOutcome (job_at it.image texts input room base []) effect
+    → texts ≡ it.texts → input ≡ it.input → room ≡ room_of run (length it.image) → base ≡ run.base → HasOutcome (job_of_run run it) effect
+outcome_as run it texts input room base effect outcome same_texts same_input same_room same_base =
+    subst (λ job. HasOutcome job effect) (λ i. job_at it.image (same_texts i) (same_input i) (same_room i) (same_base i) []) outcome
 
 module _ (run : Run) (it : Read) (writes writes_then : Option (List Access)) (taken taken_then : Option (List ℕ)) where
   pub failed_save : (saved : List ℕ) (reports : List Report) (ended : Ended) (failed : Failure) → HasOutcome (job_of_run run it) (effect_at taken taken_then saved reports ended)
