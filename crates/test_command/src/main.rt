@@ -3,6 +3,7 @@
 #![tactic(auto)]
 
 mod cases;
+mod damage;
 mod dumps;
 mod explained;
 mod files;
@@ -10,6 +11,8 @@ mod images;
 mod player;
 mod printed;
 mod programs;
+mod random_texts;
+mod tables;
 mod written;
 
 use crate::cases::{Case, MARK, Turn};

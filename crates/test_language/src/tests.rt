@@ -1,9 +1,0 @@
-mod ends;
-mod every;
-mod files;
-mod operations;
-mod programs;
-mod random;
-mod sharing;
-mod support;
-mod texts;
