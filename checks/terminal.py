@@ -1,12 +1,14 @@
 #!/usr/bin/env python3
-"""Tests the colours of reports: only on a terminal, and only if the user wants them.
+"""Tests the colours of reports: only on a terminal, and only if the user wants them; and the bar of long work.
 
     terminal.py SEGTOOL
 
 Compiles a program with an error and one with a warning, with the error output on a pseudo-terminal or in a pipe, and
-compares what is written with a text in which the colours are marked."""
+compares what is written with a text in which the colours are marked. Then runs a program that counts for some seconds:
+a terminal shows a bar that grows, and that is removed before the output."""
 import os
 import pty
+import re
 import subprocess
 import sys
 import tempfile
@@ -39,6 +41,12 @@ REPORTS = [
     (["compile", "warned.lez", "out", "--force"], WARNED_REPORT),
     (["chek"], WRONG_WORDS),
 ]
+
+# It takes about 900 million steps, and prints a number.
+LONG = """let n = 0
+for i in 0..200000000 { n += i }
+print n
+"""
 
 COLOURS = {"<": "\x1b[1;31m", "(": "\x1b[1;33m", "[": "\x1b[1;36m", ">": "\x1b[0m", ")": "\x1b[0m", "]": "\x1b[0m"}
 
@@ -74,6 +82,20 @@ def in_pipe(words, folder, env):
     return subprocess.run(words, cwd=folder, env=env, stdout=subprocess.DEVNULL, stderr=subprocess.PIPE, text=True, check=False).stderr
 
 
+def wrong_bars(segtool, folder, plain):
+    """How many of the outputs of a long run are wrong. The bar must be there on a terminal, grow, and be removed at last."""
+    words = [segtool, "run", "empty.image", "empty.image", "long.lez"]
+    shown = on_terminal(words, folder, plain)
+    parts = [int(part) for part in re.findall(r"\rrunning \[[# ]{40}\] +(\d+) %", shown)]
+    is_right = len(parts) > 1 and parts == sorted(set(parts)) and shown.endswith("\r\x1b[K")
+    if not is_right:
+        print(f"the bar of a long run: {shown!r}")
+    quiet = [on_terminal(words, folder, {**plain, "TERM": "dumb"}), in_pipe(words, folder, plain)]
+    for it in filter(None, quiet):
+        print(f"a long run without a bar: {it!r}")
+    return (not is_right) + sum(map(bool, quiet))
+
+
 def main():
     if len(sys.argv) != 2 or not os.access(sys.argv[1], os.X_OK):
         raise SystemExit(__doc__)
@@ -97,7 +119,10 @@ def main():
                 if not written.startswith(shown(report, is_coloured)):
                     wrong += 1
                     print(f"{run.__name__} {env} {words}: {written!r}")
-    print(f"{len(REPORTS) * len(cases)} reports, {wrong} wrong")
+        Path(folder, "long.lez").write_text(LONG, encoding="ascii")
+        subprocess.run([segtool, "new", "empty.image", "4096", "best", "tree"], cwd=folder, check=True)
+        wrong += wrong_bars(segtool, folder, plain)
+    print(f"{len(REPORTS) * len(cases)} reports and 3 long runs, {wrong} wrong")
     return 1 if wrong else 0
 
 

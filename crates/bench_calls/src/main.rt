@@ -7,7 +7,7 @@ mod clients;
 mod discarded;
 
 use crate::clients::{prepare_client, run_client};
-use cli_host::HostFiles;
+use cli_host::{HostFiles, Progress};
 use lezgauri::{
     BestFit, Code, ENTRY, Fault, Fit, Heap, IndexKind, Numbers, Place, Region, Segment, SeqFit,
     Type, TypeId, TypeTable,
@@ -86,7 +86,8 @@ fn asked(rt: &HostRuntime, words: &[String]) -> Option<()> {
         [_, work, times, passes, image, client] => {
             let times = number(times)?.saturating_mul(number(passes)?);
             let names = [image.as_str(), client.as_str()];
-            let mut files = HostFiles::new(rt);
+            let silent = Progress::new(rt, false);
+            let mut files = HostFiles::new(rt, &silent);
             match work.as_str() {
                 "prepare" => prepare_client(rt.alloc(), &mut files, names, times),
                 "run" => run_client(rt.alloc(), &mut files, names, times),

@@ -1,11 +1,12 @@
 use crate::files::{FileFault, Files};
 use crate::problem::FileProblem;
+use crate::progress::{Progress, Work};
 use std::alloc::Global;
 use std::fs::{self, File, Metadata, OpenOptions, Permissions};
-use std::io::{self, ErrorKind, Read, Write};
+use std::io::{self, ErrorKind, Read, Take, Write};
 use std::os::unix::fs::{MetadataExt, OpenOptionsExt, PermissionsExt, fchown};
 use std::path::Path;
-use std::rt;
+use std::rt::{self, Clock};
 
 /// How many names are tried for the new file beside the one that it replaces.
 const NAMES: u32 = 100;
@@ -19,10 +20,14 @@ const ACCESS_OF_NEW: u32 = 0o666;
 /// For the owner alone.
 const ACCESS_OF_OWNER: u32 = 0o600;
 
-/// The files of the host.
+/// How many bytes are read or written between two looks at the clock.
+const PIECE: usize = 1 << 22;
+
+/// The files of the host. Reading and writing them shows how far it is.
 #[derive(Drop)]
 pub struct HostFiles<'a, R> {
     rt: &'a R,
+    progress: &'a Progress<'a, R>,
 }
 
 /// A new file beside the one that it will replace.
@@ -32,18 +37,30 @@ struct Beside {
     file: File,
 }
 
-impl<'a, R: rt::Files<File = File> + AllocGlobal> HostFiles<'a, R> {
-    pub fn new(rt: &'a R) -> HostFiles<'a, R> {
-        HostFiles { rt }
+impl<'a, R: rt::Files<File = File> + AllocGlobal + Clock + Eprint> HostFiles<'a, R> {
+    pub fn new(rt: &'a R, progress: &'a Progress<'a, R>) -> HostFiles<'a, R> {
+        HostFiles { rt, progress }
     }
 
     fn read_at_most(&self, alloc: Global, name: &str, limit: u64) -> io::Result<Vec<u8>> {
         let file = fs::open(self.rt, name)?;
+        let whole = file.metadata()?.len().min(limit);
         // one byte more than the file has, so that reading reaches its end in one request
-        let room = file.metadata()?.len().min(limit).saturating_add(1);
-        let mut bytes = Vec::with_capacity(alloc, room as usize)?;
-        file.take(limit).read_to_end(&mut bytes)?;
+        let mut bytes = Vec::with_capacity(alloc, whole.saturating_add(1) as usize)?;
+        self.read_pieces(file.take(limit), whole, &mut bytes)?;
         Ok(bytes)
+    }
+
+    /// Reads a file to its end, in pieces.
+    fn read_pieces(&self, mut file: Take<File>, whole: u64, bytes: &mut Vec<u8>) -> io::Result<()> {
+        for _ in 0..=file.limit() / PIECE as u64 {
+            let count = file.by_ref().take(PIECE as u64).read_to_end(bytes)?;
+            if count < PIECE {
+                break;
+            }
+            self.progress.show(Work::Reading, bytes.len() as u64, whole);
+        }
+        Ok(())
     }
 
     /// The metadata of the plain file with this name, through links. `None` if there is no plain file, or if permissions keep from
@@ -106,8 +123,28 @@ impl<'a, R: rt::Files<File = File> + AllocGlobal> HostFiles<'a, R> {
         old: Option<&Metadata>,
         bytes: &[u8],
     ) -> io::Result<()> {
-        fill(file, old, bytes)?;
+        self.fill(file, old, bytes)?;
         fs::rename(self.rt, beside, name)
+    }
+
+    /// Writes the bytes to a new file and gives it the old file's permissions, and waits until they are on the disk.
+    fn fill(&self, mut file: File, old: Option<&Metadata>, bytes: &[u8]) -> io::Result<()> {
+        self.write_pieces(&mut file, bytes)?;
+        if let Some(old) = old {
+            keep_access(&file, old)?;
+        }
+        file.sync_all()
+    }
+
+    fn write_pieces(&self, file: &mut File, bytes: &[u8]) -> io::Result<()> {
+        let mut written: u64 = 0;
+        for piece in bytes.chunks(PIECE) {
+            file.write_all(piece)?;
+            written = written.saturating_add(piece.len() as u64);
+            self.progress
+                .show(Work::Writing, written, bytes.len() as u64);
+        }
+        Ok(())
     }
 
     /// Makes the first of the files `NAME.1.new`, `NAME.2.new` and so on that doesn't exist. Whatever exists with such a name,
@@ -142,15 +179,6 @@ impl<'a, R: rt::Files<File = File> + AllocGlobal> HostFiles<'a, R> {
             .mode(access)
             .open(self.rt, name)
     }
-}
-
-/// Writes the bytes to a new file and gives it the old file's permissions, and waits until they are on the disk.
-fn fill(mut file: File, old: Option<&Metadata>, bytes: &[u8]) -> io::Result<()> {
-    file.write_all(bytes)?;
-    if let Some(old) = old {
-        keep_access(&file, old)?;
-    }
-    file.sync_all()
 }
 
 /// Gives a new file the old one's permissions, and its group and owner if the system allows this user to.
@@ -225,7 +253,7 @@ fn unwritten(error: io::Error) -> FileFault {
     FileFault::Failed(problem)
 }
 
-impl<R: rt::Files<File = File> + AllocGlobal> Files for HostFiles<'_, R> {
+impl<R: rt::Files<File = File> + AllocGlobal + Clock + Eprint> Files for HostFiles<'_, R> {
     fn read(&mut self, alloc: Global, name: &str, limit: u64) -> Result<Vec<u8>, FileFault> {
         // don't read a plain file that is too long; other files have no known length
         if let Some(there) = self.plain_file(name)? {

@@ -9,6 +9,7 @@ mod misread;
 mod named;
 mod overwriting;
 mod problem;
+mod progress;
 mod reading;
 mod request;
 mod run;
@@ -21,6 +22,7 @@ pub use misread::Misread;
 pub use named::{FileFailure, read_file, read_files, read_image, write_file};
 pub use overwriting::{is_same_file, refuse_input, refuse_other_format};
 pub use problem::{FileProblem, Format};
+pub use progress::{Progress, Work};
 pub use reading::read;
 pub use request::{
     Allocator, Asked, Assembly, Compilation, ImageTask, Index, JsonTask, Load, NewImage, Picture,

@@ -1,2 +1,3 @@
 pub mod Failures
 pub mod Runs
+pub mod Watching

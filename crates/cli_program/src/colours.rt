@@ -61,8 +61,8 @@ fn is_set(rt: &(impl Env + AllocGlobal), name: &str) -> bool {
     }
 }
 
-/// Whether the terminal has no colours.
-fn is_dumb(rt: &(impl Env + AllocGlobal)) -> bool {
+/// Whether the terminal has neither colours nor a cursor that moves.
+pub fn is_dumb(rt: &(impl Env + AllocGlobal)) -> bool {
     match env::var(rt, "TERM") {
         Ok(value) => value.as_str() == "dumb",
         Err(_) => true,

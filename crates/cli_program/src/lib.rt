@@ -8,11 +8,13 @@ mod inputs;
 mod output;
 mod run;
 mod saving;
+mod watched;
 
 pub use client_vm::Through;
-pub use colours::{Coloured, wants_colours};
+pub use colours::{Coloured, is_dumb, wants_colours};
 pub use failure::Failure;
 pub use host::{refuse, words};
 pub use inputs::{Inputs, read_input, read_inputs, slices};
 pub use output::{print, report, tell, tell_failure};
 pub use run::{run_files, run_inputs};
+pub use watched::Watched;

@@ -50,6 +50,9 @@ pub fn is_place(room: u32, base: u32, len: u32) -> bool
     base % 16 == 0 && len <= room && base <= room - len
 }
 
+/// How many lines are performed at a time, about a tenth of a second's. In between, the output hears of the steps.
+const AT_A_TIME: u64 = 1 << 26;
+
 /// The moves that aren't made yet.
 #[derive(Drop)]
 pub(crate) struct Moves<'a> {
@@ -75,8 +78,8 @@ impl<'a> Moves<'a> {
         }
     }
 
-    /// Makes the next move if it is due: `steps` were taken, and the next line is a step. Returns a lower bound, 1 or more, of
-    /// the number of lines before a move is due.
+    /// Makes the next move if it is due: `steps` were taken, and the next line is a step. Returns how many lines to perform next,
+    /// 1 or more: a lower bound of the number of lines before a move is due, at most [`AT_A_TIME`].
     #[inline(never)]
     pub(crate) fn make_due<A: Allocator>(
         &mut self,
@@ -96,7 +99,7 @@ impl<'a> Moves<'a> {
         if steps == self.due() && is_step {
             self.make(w);
         }
-        self.due().saturating_sub(steps).max(1)
+        self.due().saturating_sub(steps).max(1).min(AT_A_TIME)
     }
 
     fn make<A: Allocator>(&mut self, w: &mut Window<A>)

@@ -17,7 +17,7 @@ mod written;
 
 use crate::cases::{Case, MARK, Turn};
 use crate::player::Player;
-use cli_host::{Files, HostFiles};
+use cli_host::{Files, HostFiles, Progress};
 use std::process::{ExitCode, Termination};
 use std::test::Fail;
 use std::{env, str};
@@ -53,7 +53,8 @@ struct Count {
 }
 
 fn read(rt: &HostRuntime, name: &String) -> Result<Vec<u8>, Fail> {
-    match HostFiles::new(rt).read(rt.alloc(), name.as_str(), LIMIT) {
+    let silent = Progress::new(rt, false);
+    match HostFiles::new(rt, &silent).read(rt.alloc(), name.as_str(), LIMIT) {
         Ok(bytes) => Ok(bytes),
         Err(_) => Err(Fail::new(format_args!("{name} can't be read"))),
     }
