@@ -131,11 +131,11 @@ def lists_of(source):
 
 
 def changed_counters():
-    """The counter's image with the changes that the tests of the commands make. Faults from 20 on are those of clients."""
+    """The counter's image with the changes that the tests of the commands make."""
     counter = (ROOT / "examples" / "counter.image").read_bytes()
     for file in sorted((ROOT / "crates" / "test_command" / "data").glob("*.cases")):
         source = file.read_text(encoding="utf-8")
-        said = r"^(?:\$ (?:counter \w+|explains (?:image|changed)) )?((?:\d+(?:=|:|->)\S+ ?)+)(?: *;.*| *=> fault (?!2\d).*)?$"
+        said = r"^(?:\$ (?:counter \w+|explains (?:image|changed)) )?((?:\d+(?:=|:|->)\S+ ?)+)(?: *;.*| *=> fault.*)?$"
         for changes in re.findall(said, source, re.M):
             image = Image(bytearray(counter))
             try:

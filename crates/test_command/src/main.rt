@@ -3,7 +3,6 @@
 #![tactic(auto)]
 
 mod cases;
-mod damage;
 mod dumps;
 mod explained;
 mod files;
@@ -11,8 +10,6 @@ mod images;
 mod player;
 mod printed;
 mod programs;
-mod random_texts;
-mod tables;
 mod written;
 
 use crate::cases::{Case, MARK, Turn};

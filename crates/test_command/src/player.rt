@@ -12,8 +12,6 @@
 //!     $ program FILE PROGRAM  the program with this name in the file of texts
 //!     $ increment FILE        the client of `examples/increment.text`, byte by byte
 //!     $ counter FILE ..       the counter's image, with these changes
-//!     $ changed NAME FILE ..  a file with the bytes of another one and these changes; a number alone cuts it to this length
-//!     $ repeat FILE N         a file with the lines, N times, with the numbers from 0 on in the place of `{}`
 //!     $ image FILE IMAGE      the image with this name in `images.rt`
 //!     $ zeros FILE N          a file of zeros
 //!     $ random FILE SEED      the dump of an image made at random
@@ -35,29 +33,30 @@
 //!     $ repeats FILE N        the file is the lines, N times, with the numbers from 0 on in the place of `{}`
 //!     $ absent FILE           there is no such file
 //!     $ writes N              the number of writes so far
-//!     $ texts ..; changes ..  `tables.rt` tells about tables
-//!     $ damage FILE AT ..     `damage.rt` tells about clients with changed bytes
-//!     $ roundtrips SEED N     makes N texts of clients at random, which are printed as they are after they are assembled
-//!     $ contents              the lines are changes for the images of `explains changed`, and the first lines of `texts`
+//!     $ faults                each line: changes of the counter's image, ` => `, and the fault of `check`; `;` begins a comment
+//!     $ contents              the lines are changes for the images of `explains changed`
 //!     $ plays IMAGE INPUT ..  runs each program on the image, and prints the lines
 //!     $ explains ..           `explained.rt` tells which there are, and `programs.rt` statements about programs
 
 use crate::cases::{MARK, Turn, first_statement};
-use crate::damage::damage;
 use crate::dumps::random_dump;
 use crate::explained::explains;
 use crate::files::Stored;
 use crate::images::image;
-use crate::printed::{ALL, Printed, Taken};
+use crate::printed::{Printed, Taken};
 use crate::programs::{is_about_programs, tells};
-use crate::random_texts::make_round_trips;
-use crate::tables::{changed, print_changed, print_texts};
 use cli_host::FileProblem;
 use lezgauri::assemble;
 use std::alloc::{AllocError, Global};
 use std::str;
 use std::test::Fail;
 use support_data::{INCREMENT_FILE, counter_saved, counter_where, front};
+
+/// An output without limits.
+const ALL: Taken = Taken {
+    at_a_time: usize::MAX,
+    in_all: usize::MAX,
+};
 
 /// Plays a case.
 #[derive(Drop)]
@@ -68,7 +67,7 @@ pub(crate) struct Player<'a> {
     turn: Turn,
     files: Stored,
     taken: Taken,
-    /// Changes of the images of `explains changed`, and the first lines of `texts`.
+    /// Changes of the images of `explains changed`.
     contents: &'a str,
 }
 
@@ -134,13 +133,7 @@ impl<'a> Player<'a> {
             }
             "fail" => self.fails(name, rest)?,
             "link" => self.files.link(name, rest)?,
-            "texts" => {
-                let files = &mut self.files;
-                return print_texts(self.alloc, files, self.contents, name, rest, lines);
-            }
-            "changes" => return print_changed(self.alloc, &mut self.files, name, rest, lines),
-            "damage" => return damage(self.alloc, self.files.get(name), rest, lines),
-            "roundtrips" => return make_round_trips(self.alloc, name.parse()?, rest.parse()?),
+            "faults" => return finds(self.alloc, lines),
             "plays" => return self.plays(name, rest, lines),
             _ if is_about_programs(word) => {
                 return tells(
@@ -174,8 +167,6 @@ impl<'a> Player<'a> {
             "program" => Vec::from_slice(alloc, named(self.texts, rest)?.as_bytes())?,
             "increment" => Vec::from_slice(alloc, &INCREMENT_FILE)?,
             "counter" => counter_where(alloc, rest)?,
-            "changed" => self.changed(rest)?,
-            "repeat" => repeated(alloc, lines, rest.parse()?)?.into_bytes(),
             "image" => image(alloc, rest)?,
             "zeros" => Vec::from_elem(alloc, 0, rest.parse()?)?,
             "random" => Vec::from_slice(alloc, random_dump(alloc, self.turn.seed)?.as_bytes())?,
@@ -187,12 +178,6 @@ impl<'a> Player<'a> {
             }
             _ => return Ok(None),
         }))
-    }
-
-    /// The bytes of a file with changes.
-    fn changed(&self, words: &str) -> Result<Vec<u8>, Fail> {
-        let (name, changes) = words.split_once(' ').ok_or("no changes")?;
-        changed(self.alloc, self.files.get(name), changes)
     }
 
     /// Runs programs one after the other on an image, and tests what they print.
@@ -332,4 +317,26 @@ fn repeated(alloc: Global, lines: &str, times: u32) -> Result<String, Fail> {
         write!(text, "{before}{number}{after}")?;
     }
     Ok(text)
+}
+
+/// Tests the fault that `check` prints for each line's changes of the counter's image.
+fn finds(alloc: Global, lines: &str) -> Result<(), Fail> {
+    for line in lines.lines() {
+        let case = line.split_once(';').map_or(line, |parts| parts.0);
+        if case.trim().is_empty() {
+            continue;
+        }
+        let (changes, fault) = case.split_once(" => ").ok_or("no case")?;
+        if !has_fault(alloc, changes, fault.trim())? {
+            return Err(Fail::new(format_args!("not so: {line}")));
+        }
+    }
+    Ok(())
+}
+
+fn has_fault(alloc: Global, changes: &str, fault: &str) -> Result<bool, Fail> {
+    let mut files = Stored::new(alloc);
+    files.add("image", counter_where(alloc, changes)?.as_slice())?;
+    let printed = Printed::by(alloc, &["segtool", "check", "image"], &mut files, ALL);
+    Ok(printed.is_fault(fault))
 }

@@ -22,12 +22,6 @@ pub(crate) struct Taken {
     pub(crate) in_all: usize,
 }
 
-/// An output without limits.
-pub(crate) const ALL: Taken = Taken {
-    at_a_time: usize::MAX,
-    in_all: usize::MAX,
-};
-
 impl Printed {
     /// Runs a command line with an output that takes this much.
     pub(crate) fn by(alloc: Global, words: &[&str], files: &mut Stored, taken: Taken) -> Printed {
@@ -59,6 +53,11 @@ impl Printed {
                 self.status == status && is_lines(out, wanted) && is_lines(err, wanted_err)
             }
         }
+    }
+
+    /// Whether the command failed with this line.
+    pub(crate) fn is_fault(&self, line: &str) -> bool {
+        self.status == 1 && self.err.as_slice().strip_suffix(b"\n") == Some(line.as_bytes())
     }
 
     /// The output, or the error output of a command that failed.

@@ -1,4 +1,4 @@
-use Rattle.test_command.proofs.random_texts.Writer.+part.Given as goal
+use Rattle.test_language.proofs.tests.random.Writer.+part.Given as goal
 
 abbrev pub decreases-part : goal.decreases-part
 decreases-part l = l.depth

@@ -1,7 +1,5 @@
-//! Texts of clients made at random.
-
+use crate::tests::support::canonical;
 use client_code::{Number, OPERATIONS, Operand, Operation, Role};
-use lezgauri::{Fault, assemble, parse, print};
 use std::alloc::{AllocError, Global};
 use std::test::Fail;
 use support_data::Random;
@@ -22,9 +20,9 @@ family q
 
 const TYPES: u32 = 5;
 
-const FIRST_NAME: i64 = 2;
+const FIRST_NAME: u32 = 2;
 
-const FIRST_FAMILY: i64 = 4;
+const FIRST_FAMILY: u32 = 4;
 
 /// Writes random code that is valid by the instruction table, with parts at most 8 deep.
 #[derive(Drop)]
@@ -34,14 +32,9 @@ struct Writer {
 }
 
 impl Writer {
-    /// Writes a number after these letters.
-    fn word(&mut self, front: &str, number: i64) -> Result<(), AllocError> {
-        write!(self.text, "{front}{number}")
-    }
-
     fn register(&mut self) -> Result<(), AllocError> {
-        let register = self.random.below(16);
-        self.word(" r", i64::from(register))
+        let n = self.random.below(16);
+        write!(self.text, " r{n}")
     }
 
     /// Writes an operand: a register, or `-` if it is optional and `is_none`.
@@ -55,23 +48,23 @@ impl Writer {
     }
 
     fn number(&mut self, number: Number, is_exact: bool) -> Result<(), AllocError> {
-        let t = i64::from(self.random.below(TYPES));
-        let k = i64::from(self.random.below(2));
+        let t = self.random.below(TYPES);
+        let k = self.random.below(2);
         match number {
             Number::Unused => Ok(()),
             Number::Any => {
                 let n = i64::from(self.random.below(u32::MAX)) - 2_147_483_648;
-                self.word(" ", n)
+                write!(self.text, " {n}")
             }
             Number::Turns => {
                 let n = self.random.below(1_000_000_000) + 1;
-                self.word(" ", i64::from(n))
+                write!(self.text, " {n}")
             }
-            Number::TypeId => self.word(" t", t),
-            Number::Text => self.word(" k", k),
+            Number::TypeId => write!(self.text, " t{t}"),
+            Number::Text => write!(self.text, " k{k}"),
             Number::TypedName => {
-                self.word(" t", t)?;
-                self.word(" k", k + if is_exact { FIRST_NAME } else { FIRST_FAMILY })
+                let k = k + if is_exact { FIRST_NAME } else { FIRST_FAMILY };
+                write!(self.text, " t{t} k{k}")
             }
         }
     }
@@ -117,21 +110,7 @@ impl Writer {
     }
 }
 
-/// Tests that random texts are printed as they are, since they are canonical, after they are assembled.
-pub(crate) fn make_round_trips(alloc: Global, seed: u64, count: u32) -> Result<(), Fail> {
-    let mut writer = Writer {
-        random: Random::new(seed),
-        text: String::new(alloc),
-    };
-    for _ in 0..count {
-        if !goes_round(&mut writer, alloc)? {
-            return Err(Fail::new(format_args!("another text than {}", writer.text)));
-        }
-    }
-    Ok(())
-}
-
-/// Whether a client with random code is printed as its text.
+/// Whether a client with random code is printed as its text, which is canonical.
 fn goes_round(writer: &mut Writer, alloc: Global) -> Result<bool, Fail> {
     writer.text = String::from_str(alloc, FRONT)?;
     writer.part(8)?;
@@ -139,8 +118,14 @@ fn goes_round(writer: &mut Writer, alloc: Global) -> Result<bool, Fail> {
     Ok(printed.as_slice() == writer.text.as_bytes())
 }
 
-/// Assembles a text, and prints the client as its canonical text.
-fn canonical(alloc: Global, text: &[u8]) -> Result<Vec<u8>, Fault> {
-    let file = assemble(alloc, text)?;
-    print(alloc, &parse(file.as_slice())?)
+#[test]
+fn random_texts_go_round(rt: HostRuntime) -> Result<(), Fail> {
+    let mut writer = Writer {
+        random: Random::new(1),
+        text: String::new(rt.alloc()),
+    };
+    for _ in 0..2000 {
+        assert!(rt; goes_round(&mut writer, rt.alloc())?, "{}", writer.text);
+    }
+    Ok(())
 }

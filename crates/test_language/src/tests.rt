@@ -1,0 +1,9 @@
+mod ends;
+mod every;
+mod files;
+mod operations;
+mod programs;
+mod random;
+mod sharing;
+mod support;
+mod texts;
