@@ -44,7 +44,7 @@ REPORTS = [
 
 # It takes about 900 million steps, and prints a number.
 LONG = """let n = 0
-for i in 0..200000000 { n += i }
+for i in 0..160000000 { n += i }
 print n
 """
 
