@@ -2,7 +2,7 @@
 """Proves and builds the program segtool, crates/segtool/out/segtool, the library for C, or the host program of bench/.
 
 A program is built by the gate, `rt ci`, of a copy of the crates that it stands on, without the edits that the prover must refuse, so
-that each crate is proved once. What the prover says is kept in crates/NAME/out/build.log."""
+that each crate is proved once. What the prover says is kept beside what is built, in build.log."""
 import argparse
 import os
 import re
@@ -16,6 +16,8 @@ from pathlib import Path
 ROOT = Path(__file__).resolve().parent
 PROGRAMS = ("segtool", "bench_calls")
 LIBRARY = "lezgauri_c"
+# Crates that the gate doesn't prove: their folders, where the files end in `.in`, and their lines of a `crates.txt`.
+APART = {"bench_calls": (ROOT / "bench" / "host", "bench_calls: seg_manager lezgauri cli_host")}
 NO_TOOLCHAIN = """The command `rt` of Rattle's toolchain isn't on the path, so nothing can be proved or built.
 README.md says under "What is proved" which release of it this repository is proved with."""
 
@@ -31,9 +33,10 @@ def lanes():
 
 
 def read_crates():
-    """The libraries that each crate of `crates.txt` uses, and its line there."""
+    """The libraries that each crate uses, and its line of `crates.txt`."""
     found = {}
-    for line in (ROOT / "crates.txt").read_text(encoding="utf-8").splitlines():
+    lines = (ROOT / "crates.txt").read_text(encoding="utf-8").splitlines()
+    for line in (*lines, *(line for _, line in APART.values())):
         name, colon, used = line.partition("#")[0].partition(":")
         if colon:
             found[name.split()[0]] = (used.split(), line)
@@ -51,10 +54,33 @@ def needed(crates, name):
     return found
 
 
+def write(file, text):
+    """Writes a file, unless it has this text, so that what was proved of it stays."""
+    if not file.is_file() or file.read_text(encoding="utf-8") != text:
+        file.parent.mkdir(parents=True, exist_ok=True)
+        file.write_text(text, encoding="utf-8")
+
+
+def lay_apart(source, to):
+    """Lays out a crate that isn't in crates/, without the `.in` after the names of its files."""
+    for file in sorted(source.rglob("*")):
+        place = file.relative_to(source)
+        if file.is_file() and place.parts[0] != "out":
+            write(to / (place.with_suffix("") if place.suffix == ".in" else place), file.read_text(encoding="utf-8"))
+
+
+def folder_of(name):
+    """The folder of a crate."""
+    return APART[name][0] if name in APART else ROOT / "crates" / name
+
+
 def lay(copy, crates, wanted):
     """Lays crates out as a repository of their own."""
     for it in wanted:
-        shutil.copytree(ROOT / "crates" / it, copy / "crates" / it, ignore=shutil.ignore_patterns("out", "must-fail"))
+        if it in APART:
+            lay_apart(folder_of(it), copy / "crates" / it)
+        else:
+            shutil.copytree(folder_of(it), copy / "crates" / it, ignore=shutil.ignore_patterns("out", "must-fail"))
     (copy / "crates.txt").write_text("".join(f"{crates[it][1]}\n" for it in sorted(wanted)), encoding="utf-8")
     shutil.copy2(ROOT / "HANDLES", copy)
 
@@ -101,9 +127,9 @@ def follow(command, folder, log, wanted):
 
 
 def build_program(crates, name):
-    """Proves a program and all below it, and leaves it in its crate."""
+    """Proves a program and all below it, and leaves it in its crate's folder `out`."""
     wanted = needed(crates, name)
-    out = ROOT / "crates" / name / "out"
+    out = folder_of(name) / "out"
     with tempfile.TemporaryDirectory() as room:
         copy = Path(room)
         lay(copy, crates, wanted)

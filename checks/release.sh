@@ -89,6 +89,7 @@ long_check() {
 count() { [ -n "$quick" ] && echo "$2" || echo "$1"; }
 
 long_check ci rt ci
+long_check bench_calls ./build.py bench_calls
 check files checks/files.sh
 check refused_memory checks/refused_memory.sh
 check power checks/power.py

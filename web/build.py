@@ -18,7 +18,7 @@ from pathlib import Path
 
 ROOT = Path(__file__).resolve().parent.parent
 sys.path.insert(0, str(ROOT))
-from build import NO_TOOLCHAIN, needed, read_crates  # noqa: E402
+from build import NO_TOOLCHAIN, lay_apart, needed, read_crates, write  # noqa: E402
 
 MODULE = "lezgauri_web"
 # The crate that declares the page's functions.
@@ -60,23 +60,6 @@ def with_allocator(line):
     return line
 
 
-def lay_module(crates_folder, name):
-    """Lays out a crate of web/module, without the `.in` of its files."""
-    source = ROOT / "web" / "module" / name
-    for file in sorted(source.rglob("*")):
-        if file.is_file():
-            to = crates_folder / name / file.relative_to(source)
-            to = to.with_suffix("") if to.suffix == ".in" else to
-            write(to, file.read_text(encoding="utf-8"))
-
-
-def write(file, text):
-    """Writes a file, unless it has this text, so that what was proved of it stays."""
-    if not file.is_file() or file.read_text(encoding="utf-8") != text:
-        file.parent.mkdir(parents=True, exist_ok=True)
-        file.write_text(text, encoding="utf-8")
-
-
 def lay_crate(crates_folder, name, proved):
     """Lays out a crate of the repository: the files that a proof reads, and what was proved of it, if that is given."""
     source = ROOT / "crates" / name
@@ -105,7 +88,7 @@ def lay(folder, proved):
         lay_crate(crates_folder, name, proved)
         rows.append(f"{crates[name][1]} {HOST}" if name in PRINTING else crates[name][1])
     for name in (HOST, MODULE):
-        lay_module(crates_folder, name)
+        lay_apart(ROOT / "web" / "module" / name, crates_folder / name)
     rows += [f"{HOST}: libc", f"{MODULE} wasm64: {HOST} {' '.join(USED)}"]
     write(folder / "crates.txt", "".join(f"{row}\n" for row in rows))
     (folder / ".git").mkdir(exist_ok=True)

@@ -10,7 +10,6 @@ mod images;
 mod player;
 mod printed;
 mod programs;
-mod written;
 
 use crate::cases::{Case, MARK, Turn};
 use crate::player::Player;

@@ -5,10 +5,8 @@
 //!     $ listed      the words that are listed with the errors of a program, each with its line
 //!     $ shown       the errors, or the warnings of a program without errors, as they are shown for a file `p.lez`
 //!     $ about       the part of the program that its first error is about
-//!     $ tree        the tree, as `written.rt` writes it
 //!     $ nested N A B  the errors in the words of `let x = ` and an expression: the first A bytes N times, the middle, the last B bytes N times
 
-use crate::written::written;
 use lezgauri::TypeTable;
 use script_compile::{Failure, Refusal, client_of, compile};
 use script_syntax::{self, Error, Span, parse};
@@ -21,7 +19,7 @@ use std::test::Fail;
 pub(crate) fn is_about_programs(word: &str) -> bool {
     matches!(
         word,
-        "errors" | "warnings" | "listed" | "shown" | "about" | "tree" | "nested"
+        "errors" | "warnings" | "listed" | "shown" | "about" | "nested"
     )
 }
 
@@ -34,7 +32,6 @@ pub(crate) fn tells(alloc: Global, word: &str, rest: &str, lines: &str) -> Resul
         "listed" => listed(alloc, program)?,
         "shown" => shown(alloc, program)?,
         "about" => subject_of(alloc, program)?,
-        "tree" => tree_of(alloc, program)?,
         _ => misread_of(alloc, nested(alloc, program, rest)?.as_str())?,
     };
     let found = found.as_str();
@@ -155,11 +152,6 @@ fn subject_of(alloc: Global, program: &str) -> Result<String, Fail> {
     };
     let first = errors.first().ok_or("no errors")?;
     Ok(String::from_str(alloc, part(program, first.span))?)
-}
-
-fn tree_of(alloc: Global, program: &str) -> Result<String, Fail> {
-    let tree = parse(alloc, program.as_bytes()).ok().ok_or("no tree")?;
-    Ok(written(alloc, &tree)?)
 }
 
 /// The part of a program in a span.

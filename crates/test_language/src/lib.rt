@@ -1,4 +1,4 @@
-//! Tests of clients' files, of their texts, and of the verifier.
+//! Tests of clients' files, of their texts, of the verifier, and of the trees of programs.
 #![tactic(auto)]
 
 #[cfg(test)]

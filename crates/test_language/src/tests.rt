@@ -7,3 +7,5 @@ mod random;
 mod sharing;
 mod support;
 mod texts;
+mod trees;
+mod written;

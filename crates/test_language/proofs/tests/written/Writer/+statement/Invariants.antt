@@ -1,5 +1,5 @@
 use Rattle.std.proofs.Common.{◌+◌, ◌*◌}
-use Rattle.test_command.proofs.written.Writer.+statement.Given as goal
+use Rattle.test_language.proofs.tests.written.Writer.+statement.Given as goal
 
 abbrev pub decreases-block : goal.decreases-block
 decreases-block l = 3 * l.levels

@@ -1,5 +1,5 @@
 use Rattle.std.proofs.Common.{◌+◌, ◌*◌}
-use Rattle.test_command.proofs.written.Writer.+expression.Given as goal
+use Rattle.test_language.proofs.tests.written.Writer.+expression.Given as goal
 
 abbrev pub decreases-inner : goal.decreases-inner
 decreases-inner l = 4 * l.levels
