@@ -1,20 +1,12 @@
 //! The library calls that the commands make. They have no contracts here: the commands are tested, not proved.
 
+pub(crate) use cli_images::{assembled, checked, opened, parsed};
 use cli_program::Failure;
-pub(crate) use cli_values::{assembled, checked, created, grown, parsed, shrunk};
 use lezgauri::{
     Fault, Image, Ready, TypeTable, Verified, parse_typed, prepare, print, verify, verify_typed,
 };
 use script_compile::{Refusal, client_of};
 use std::alloc::Global;
-
-/// An image after it is opened, or its first fault.
-pub(crate) fn opened(alloc: Global, bytes: Vec<u8>) -> Result<Image<Global>, Fault> {
-    match Image::open(alloc, bytes) {
-        Ok(image) => Ok(image),
-        Err(unopened) => Err(unopened.fault),
-    }
-}
 
 /// A client that is verified for an image.
 pub(crate) fn verified<'a>(image: &Image<Global>, client: &'a [u8]) -> Result<Verified<'a>, Fault> {

@@ -1,14 +1,15 @@
 ghost use Rattle.std.specs.Prelude.{◌≡◌, false};
 
-use crate::problems::told;
 use crate::programs::{is_client_text, translated_again};
 use cli_explain::{Sources, explain};
-use cli_host::{Files, ImageTask, Request, has_source, read_file, read_files, read_image};
+use cli_host::{Files, Request, has_source, read_file, read_files, read_image};
 use cli_program::{Failure, slices, tell};
 use lezgauri::{Fault, Refused, Sink};
 use std::alloc::{AllocError, Global};
+use std::slice;
 
-/// Explains why a command failed, in words. For that it reads the files again, and leaves out a file that can't be read any more.
+/// Explains why a command failed, in words. For a refusal it reads the files again, and leaves out a file that can't be read any
+/// more.
 pub fn explain_failure<'a, F: Files, E: Sink>(
     alloc: Global,
     request: &Request<'a>,
@@ -18,30 +19,38 @@ pub fn explain_failure<'a, F: Files, E: Sink>(
 ) -> Result<(), AllocError>
     requires works { E.has_failed err.old ≡ false }
 {
-    let words = words_of(alloc, request, failure, files)?;
-    tell(err, words.as_slice());
+    match failure {
+        Failure::Refused(refused) => {
+            let words = refusal(alloc, request, refused, files)?;
+            tell(err, words.as_slice());
+        }
+        _ => {
+            let words = failure.explanation(alloc, request)?;
+            tell(err, words.as_bytes());
+        }
+    }
     Ok(())
 }
 
-/// Why a command failed, or nothing if the printed line is in words already.
-fn words_of<'a, F: Files>(
+/// Why the library refused what a command gave it.
+fn refusal<'a, F: Files>(
     alloc: Global,
     request: &Request<'a>,
-    failure: &Failure,
+    refused: &Refused,
     files: &mut F,
 ) -> Result<Vec<u8>, AllocError> {
-    match failure {
-        Failure::Refused(refused) if is_wrong_dump(request, refused) => wrong_dump(alloc, refused),
-        Failure::Refused(refused) => {
-            let read = Read::again(alloc, request, files)?;
-            explained(alloc, refused, &read)
-        }
-        Failure::Absent(name) => absent(alloc, name, request),
-        Failure::Full(name) => full(alloc, name),
-        Failure::File(name, problem) => told(alloc, name, *problem),
-        Failure::Output => failed_output(alloc, request),
-        Failure::Words(_) | Failure::Program(_) => Ok(Vec::new(alloc)),
+    if let (Request::Load(_), Fault::BadLine(line)) = (request, refused.fault) {
+        return wrong_dump(alloc, line);
     }
+    let read = Read::again(alloc, request, files);
+    explained(alloc, refused, &read)
+}
+
+fn wrong_dump(alloc: Global, line: u32) -> Result<Vec<u8>, AllocError> {
+    let words = format!(in alloc;
+        "line {line} of the text isn't one that may come there: `segtool dump` prints such texts\n"
+    )?;
+    Ok(words.into_bytes())
 }
 
 /// The explanation of a refusal by the library, from the files that could be read.
@@ -63,33 +72,29 @@ fn explained(alloc: Global, refused: &Refused, read: &Read) -> Result<Vec<u8>, A
 
 /// The contents of the files that a command works on, if they can be read again.
 #[derive(Drop)]
-struct Read<'a> {
+struct Read<'r, 'a> {
     image: Option<Vec<u8>>,
     /// The text to assemble.
     text: Option<Vec<u8>>,
     /// The names of the clients' files, and what they contain.
-    names: Vec<&'a str>,
+    names: &'r [&'a str],
     sources: Vec<Vec<u8>>,
     /// What these are translated to, if some of them are programs or texts.
     translated: Option<Vec<Vec<u8>>>,
 }
 
-impl<'a> Read<'a> {
-    fn again<F: Files>(
-        alloc: Global,
-        request: &Request<'a>,
-        files: &mut F,
-    ) -> Result<Read<'a>, AllocError> {
-        let image = match image_of(request) {
+impl<'r, 'a> Read<'r, 'a> {
+    fn again<F: Files>(alloc: Global, request: &'r Request<'a>, files: &mut F) -> Read<'r, 'a> {
+        let (image, names) = named_files(request);
+        let image = match image {
             Some(name) => read_image(alloc, files, name).ok(),
             None => None,
         };
-        let text = match text_of(request) {
-            Some(name) => read_file(alloc, files, name).ok(),
-            None => None,
+        let text = match request {
+            Request::Assemble(assembly) => read_file(alloc, files, assembly.text).ok(),
+            _ => None,
         };
-        let names = clients_of(alloc, request)?;
-        let sources = match read_files(alloc, files, names.as_slice()) {
+        let sources = match read_files(alloc, files, names) {
             Ok(sources) => sources,
             Err(_) => Vec::new(alloc),
         };
@@ -101,14 +106,14 @@ impl<'a> Read<'a> {
             translated: None,
         };
         read.translate(alloc);
-        Ok(read)
+        read
     }
 
     /// Translates programs and texts.
     fn translate(&mut self, alloc: Global) {
-        let names = self.names.as_slice();
-        if let (Some(image), true) = (&self.image, has_source(names)) {
-            let clients = translated_again(alloc, names, self.sources.as_slice(), image.as_slice());
+        if let (Some(image), true) = (&self.image, has_source(self.names)) {
+            let sources = self.sources.as_slice();
+            let clients = translated_again(alloc, self.names, sources, image.as_slice());
             self.translated = Some(clients);
         }
     }
@@ -136,143 +141,19 @@ impl<'a> Read<'a> {
     }
 }
 
-/// The file of the text that a command works on.
-fn text_of<'a>(request: &Request<'a>) -> Option<&'a str> {
+/// The names of the files that a command works on: of the image, and of the clients.
+fn named_files<'r, 'a>(request: &'r Request<'a>) -> (Option<&'a str>, &'r [&'a str]) {
     match request {
-        Request::Assemble(assembly) => Some(assembly.text),
-        Request::New(_)
-        | Request::Image { .. }
-        | Request::Compare { .. }
-        | Request::Load(_)
-        | Request::Verify { .. }
-        | Request::Run(_)
-        | Request::RunSources(_)
-        | Request::Trace(_)
-        | Request::Compile(_)
-        | Request::Print { .. }
-        | Request::Help(_) => None,
-    }
-}
-
-/// The file of the image that a command works on.
-fn image_of<'a>(request: &Request<'a>) -> Option<&'a str> {
-    match request {
-        Request::Image { file, .. } => Some(file),
-        Request::Verify { image, .. } => Some(image),
-        Request::Run(run) | Request::RunSources(run) => Some(run.image),
-        Request::Trace(trace) => Some(trace.image),
-        Request::Compile(compilation) => compilation.image,
+        Request::Image { file, .. } => (Some(*file), &[]),
+        Request::Verify { image, client } => (Some(*image), slice::from_ref(client)),
+        Request::Run(run) | Request::RunSources(run) => (Some(run.image), run.clients.as_slice()),
+        Request::Trace(trace) => (Some(trace.image), trace.clients.as_slice()),
+        Request::Compile(compilation) => (compilation.image, &[]),
+        Request::Print { client } => (None, slice::from_ref(client)),
         Request::New(_)
         | Request::Compare { .. }
         | Request::Load(_)
         | Request::Assemble(_)
-        | Request::Print { .. }
-        | Request::Help(_) => None,
-    }
-}
-
-/// The files of the clients that a command works on.
-fn clients_of<'a>(alloc: Global, request: &Request<'a>) -> Result<Vec<&'a str>, AllocError> {
-    match request {
-        Request::Verify { client, .. } | Request::Print { client } => {
-            Vec::from_slice(alloc, &[*client])
-        }
-        Request::Trace(trace) => Vec::from_slice(alloc, trace.clients.as_slice()),
-        Request::Run(run) | Request::RunSources(run) => {
-            Vec::from_slice(alloc, run.clients.as_slice())
-        }
-        Request::New(_)
-        | Request::Image { .. }
-        | Request::Compare { .. }
-        | Request::Load(_)
-        | Request::Assemble(_)
-        | Request::Compile(_)
-        | Request::Help(_) => Ok(Vec::new(alloc)),
-    }
-}
-
-/// Whether a line of a dump is wrong.
-fn is_wrong_dump(request: &Request, refused: &Refused) -> bool {
-    matches!(request, Request::Load(_)) && matches!(refused.fault, Fault::BadLine(_))
-}
-
-fn wrong_dump(alloc: Global, refused: &Refused) -> Result<Vec<u8>, AllocError> {
-    let line = match refused.fault {
-        Fault::BadLine(line) => line,
-        _ => 0,
-    };
-    let words = format!(in alloc;
-        "line {line} of the text isn't one that may come there: `segtool dump` prints such texts\n"
-    )?;
-    Ok(words.into_bytes())
-}
-
-/// Why nothing has a name or a path.
-fn absent(alloc: Global, name: &str, request: &Request) -> Result<Vec<u8>, AllocError> {
-    match request {
-        Request::Image {
-            task: ImageTask::Get { .. } | ImageTask::Set { .. } | ImageTask::Delete { .. },
-            ..
-        } => absent_value(alloc, name),
-        _ => absent_object(alloc, name),
-    }
-}
-
-fn absent_value(alloc: Global, path: &str) -> Result<Vec<u8>, AllocError> {
-    let words = format!(in alloc;
-        "no value of the image has the path `{path}`: a name, or `unique tT`, and steps: [N] is an item or a key, .N a field, \
-.content the object of an own; `segtool show` prints all values\n"
-    )?;
-    Ok(words.into_bytes())
-}
-
-fn full(alloc: Global, name: &str) -> Result<Vec<u8>, AllocError> {
-    let words = format!(in alloc;
-        "no free block of the segment is large enough for `{name}`, and nothing was written; `segtool grow` adds memory\n"
-    )?;
-    Ok(words.into_bytes())
-}
-
-fn absent_object(alloc: Global, name: &str) -> Result<Vec<u8>, AllocError> {
-    let words = format!(in alloc;
-        "no object of the image has the name `{name}`; `segtool list` prints those that it has\n"
-    )?;
-    Ok(words.into_bytes())
-}
-
-/// What a failed output means for a command.
-fn failed_output(alloc: Global, request: &Request) -> Result<Vec<u8>, AllocError> {
-    match request {
-        Request::Run(run) | Request::RunSources(run) if run.keeps_on_failure => {
-            let out = run.out;
-            let words = format!(in alloc;
-                "the output couldn't be written, and the run ended there; `{out}` is unchanged\n"
-            )?;
-            Ok(words.into_bytes())
-        }
-        _ => Vec::from_slice(alloc, saved_anyway(request).as_bytes()),
-    }
-}
-
-/// What a failed output means for a command that saves what it made all the same.
-fn saved_anyway(request: &Request) -> &'static str {
-    match request {
-        Request::Run(_) | Request::RunSources(_) => {
-            "the output couldn't be written, and the run ended there; the image as it was then was saved, unless its file failed too\n"
-        }
-        Request::Image {
-            task: ImageTask::Grow { .. } | ImageTask::Shrink | ImageTask::Upgrade,
-            ..
-        } => "the output couldn't be written; the image was saved, unless its file failed too\n",
-        Request::New(_)
-        | Request::Image { .. }
-        | Request::Compare { .. }
-        | Request::Load(_)
-        | Request::Verify { .. }
-        | Request::Trace(_)
-        | Request::Assemble(_)
-        | Request::Compile(_)
-        | Request::Print { .. }
-        | Request::Help(_) => "the output couldn't be written\n",
+        | Request::Help(_) => (None, &[]),
     }
 }

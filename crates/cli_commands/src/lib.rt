@@ -3,13 +3,7 @@
 
 mod clients;
 mod door;
-mod editing;
 mod explaining;
-mod images;
-mod json_texts;
-mod listing;
-mod made;
-mod problems;
 mod program;
 mod programs;
 mod traces;

@@ -4,10 +4,10 @@ ghost use Rattle.cli_commands.specs.Requests.{OfRun};
 
 use crate::clients::{assemble_file, print_file, verify_file};
 use crate::explaining::explain_failure;
-use crate::images::{compare_files, image_file, load_file, new_file};
 use crate::programs::{compile_file, run_sources};
 use crate::traces::trace_files;
 use cli_host::{Asked, Files, Request};
+use cli_images::{compare_files, image_file, load_file, new_file};
 use cli_program::{Failure, print, report, run_files, tell_failure};
 use lezgauri::Sink;
 use std::alloc::Global;

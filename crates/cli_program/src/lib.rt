@@ -1,11 +1,14 @@
-//! The command that runs clients, and what all commands share: the host's arguments, the files of a run, failures, and printing.
+//! The command that runs clients, and what all commands share: the host's arguments, the files of a run, failures with their
+//! explanations, and printing.
 #![tactic(auto)]
 
 mod colours;
+mod explanation;
 mod failure;
 mod host;
 mod inputs;
 mod output;
+mod problems;
 mod run;
 mod saving;
 mod watched;

@@ -12,7 +12,7 @@ const DOUBLINGS: u32 = 21;
 
 /// Why a text makes no image.
 #[derive(Clone, Copy)]
-pub enum Unloaded {
+pub(crate) enum Unloaded {
     Fault(Fault),
     /// The largest segment has no room for the content.
     Full,
@@ -53,7 +53,7 @@ struct Shape {
 }
 
 /// The image that a text describes. If the content needs more room than the text says, the segment is larger.
-pub fn loaded(alloc: Global, text: &[u8]) -> Result<Vec<u8>, Unloaded> {
+pub(crate) fn loaded(alloc: Global, text: &[u8]) -> Result<Vec<u8>, Unloaded> {
     let dump = dump_of(alloc, text)?;
     let mut size = dump.shape.size;
     for _ in 0..=DOUBLINGS {

@@ -4,13 +4,14 @@ ghost use Rattle.std.specs.Prelude.{◌≡◌, false};
 
 use crate::door::opened;
 use crate::json_texts::unsound;
-use crate::made::{Made, Unmade, made_of, new_image};
+use crate::loading::{Unloaded, loaded};
+use crate::made::{Made, made_of, new_image};
+use crate::texts::differences;
 use cli_host::{
     FileFailure, Files, Format, ImageTask, JsonTask, Load, NewImage, Picture, read_image,
     refuse_input, refuse_other_format, write_file,
 };
 use cli_program::{Failure, print};
-use cli_values::{Unloaded, differences, loaded};
 use lezgauri::{Fault, Sink};
 use std::alloc::Global;
 
@@ -86,7 +87,7 @@ pub fn image_file<'a, F: Files, O: Sink>(
     }
     let made = match made_of(alloc, image, task) {
         Ok(made) => made,
-        Err(unmade) => return fail(alloc, unmade, task, out),
+        Err(failure) => return fail(alloc, failure, task, out),
     };
     match picture {
         Some(picture) => Ok(write_file(files, picture.file, made.text.as_slice())?),
@@ -97,24 +98,24 @@ pub fn image_file<'a, F: Files, O: Sink>(
 /// Fails, after `check --json` printed that the image isn't sound.
 fn fail<'a, O: Sink>(
     alloc: Global,
-    unmade: Unmade<'a>,
+    failure: Failure<'a>,
     task: ImageTask<'a>,
     out: &mut O,
 ) -> Result<(), Failure<'a>>
     requires works { O.has_failed out.old ≡ false }
 {
-    if let (Some(fault), ImageTask::Json(JsonTask::Check)) = (fault_of(&unmade), task) {
+    if let (Some(fault), ImageTask::Json(JsonTask::Check)) = (fault_of(&failure), task) {
         if let Some(text) = unsound(alloc, fault)? {
             print(out, text.as_slice())?;
         }
     }
-    Err(Failure::from(unmade))
+    Err(failure)
 }
 
-fn fault_of(unmade: &Unmade) -> Option<Fault> {
-    match unmade {
-        Unmade::Fault(fault) => Some(*fault),
-        Unmade::Absent(_) | Unmade::Full(_) | Unmade::Words(_) => None,
+fn fault_of(failure: &Failure) -> Option<Fault> {
+    match failure {
+        Failure::Refused(refused) => Some(refused.fault),
+        _ => None,
     }
 }
 

@@ -7,28 +7,17 @@ use lezgauri::{
 use seg_value::freeze;
 use std::alloc::Global;
 
-pub fn created(
-    alloc: Global,
-    size: u32,
-    allocator: AllocatorKind,
-    index: IndexKind,
-) -> Result<Image<Global>, Fault> {
-    Image::create(alloc, size, allocator, index)
+/// An image after it is opened, or its first fault.
+pub fn opened(alloc: Global, bytes: Vec<u8>) -> Result<Image<Global>, Fault> {
+    match Image::open(alloc, bytes) {
+        Ok(image) => Ok(image),
+        Err(unopened) => Err(unopened.fault),
+    }
 }
 
 /// The types of a sound image, or its first fault.
 pub fn checked(alloc: Global, bytes: &[u8]) -> Result<TypeTable, Fault> {
     check(alloc, bytes)
-}
-
-/// Grows the segment by `extra` bytes, and returns the new size in bytes.
-pub fn grown(image: &mut Image<Global>, extra: u32) -> Result<u32, Fault> {
-    image.grow(extra)
-}
-
-/// Cuts off the free memory at the end, and returns the new size in bytes.
-pub fn shrunk(image: &mut Image<Global>) -> u32 {
-    image.shrink()
 }
 
 /// The client that a text assembles to.
@@ -39,6 +28,25 @@ pub fn assembled(alloc: Global, text: &[u8]) -> Result<Vec<u8>, Fault> {
 /// A client that is read from its file.
 pub fn parsed(client: &[u8]) -> Result<Client<'_>, Fault> {
     parse(client)
+}
+
+pub(crate) fn created(
+    alloc: Global,
+    size: u32,
+    allocator: AllocatorKind,
+    index: IndexKind,
+) -> Result<Image<Global>, Fault> {
+    Image::create(alloc, size, allocator, index)
+}
+
+/// Grows the segment by `extra` bytes, and returns the new size in bytes.
+pub(crate) fn grown(image: &mut Image<Global>, extra: u32) -> Result<u32, Fault> {
+    image.grow(extra)
+}
+
+/// Cuts off the free memory at the end, and returns the new size in bytes.
+pub(crate) fn shrunk(image: &mut Image<Global>) -> u32 {
+    image.shrink()
 }
 
 /// The first value and the number of values of the object with this name.

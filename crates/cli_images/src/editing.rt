@@ -8,12 +8,13 @@ use crate::paths::{
     Step, Target, is_next, is_shared, number, part_of, start_of, target_of, unique_type,
 };
 use crate::spelling::unspelled;
+use cli_program::Failure;
 use lezgauri::{Code, Image, Place, Type};
 use std::alloc::{AllocError, Global};
 
 /// Why a value isn't changed.
 #[derive(Clone, Copy)]
-pub enum Unset {
+pub(crate) enum Unset {
     /// The program is out of memory.
     Memory,
     /// No free block of the segment is large enough.
@@ -30,6 +31,28 @@ pub enum Unset {
     NotText,
     /// The path is neither an object nor a key.
     NotKey,
+}
+
+impl Unset {
+    /// The failure of a command that was to change the value with this path.
+    pub(crate) fn failure(self, alloc: Global, path: &str) -> Failure<'_> {
+        let reason = match self {
+            Unset::Memory => return Failure::from(AllocError),
+            Unset::Full => return Failure::Full(path),
+            Unset::Absent => return Failure::Absent(path),
+            Unset::Frozen => "a frozen object never changes",
+            Unset::NotPlain => "only a number or a text can be set: add a step to the path",
+            Unset::NotNumber => "the value there is a number, from -2^63 to 2^63 - 1",
+            Unset::NotText => {
+                "in a text two hexadecimal digits follow each `\\`: it is written `\\5c` itself"
+            }
+            Unset::NotKey => "only an object or a key of a map can be deleted",
+        };
+        match format!(in alloc; "error: {reason}\n") {
+            Ok(words) => Failure::Words(words),
+            Err(error) => Failure::from(error),
+        }
+    }
 }
 
 impl From<Code> for Unset {
@@ -49,7 +72,7 @@ impl From<AllocError> for Unset {
 
 /// Sets the number or the text at a path. A key is added if the map doesn't have it, an item if the index is the next one, and an
 /// object if the own has none.
-pub fn set(
+pub(crate) fn set(
     alloc: Global,
     image: &mut Image<Global>,
     path: &[u8],
@@ -118,7 +141,7 @@ fn owned(image: &mut Image<Global>, own: Place) -> Result<Place, Unset> {
 }
 
 /// Destroys the object of a path, or removes the key of a map.
-pub fn delete(image: &mut Image<Global>, path: &[u8]) -> Result<(), Unset> {
+pub(crate) fn delete(image: &mut Image<Global>, path: &[u8]) -> Result<(), Unset> {
     if is_object(image, path) {
         return delete_object(image, path);
     }

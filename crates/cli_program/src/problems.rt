@@ -4,25 +4,24 @@ use cli_host::{FileProblem, Format};
 use std::alloc::{AllocError, Global};
 
 /// Why a file can't be read or written, and what would be right, in words.
-pub(crate) fn told(alloc: Global, name: &str, problem: FileProblem) -> Result<Vec<u8>, AllocError> {
-    let words = match problem {
+pub(crate) fn told(alloc: Global, name: &str, problem: FileProblem) -> Result<String, AllocError> {
+    match problem {
         FileProblem::TooLong { limit } => format!(in alloc;
             "`{name}` has more than {limit} bytes; an image may have 2^30 bytes, and a client, a text or the input 2^20\n"
-        )?,
+        ),
         FileProblem::OtherFormat(format) => {
             let wanted = noun_of(format);
             let magic = format.magic();
             format!(in alloc;
                 "`{name}` isn't empty and isn't {wanted}, which begins with `{magic}`, so nothing was written over it; \
                  name another file, or add --force\n"
-            )?
+            )
         }
         plain => {
             let words = plain_words(plain);
-            format!(in alloc; "`{name}` {words}\n")?
+            format!(in alloc; "`{name}` {words}\n")
         }
-    };
-    Ok(words.into_bytes())
+    }
 }
 
 /// The noun for a file of a format.

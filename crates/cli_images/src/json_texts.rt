@@ -1,8 +1,8 @@
 //! What commands print as JSON.
 
-use crate::listing::all_statistics;
-use crate::made::Unmade;
+use crate::listing::{all_statistics, bytes_of, found};
 use cli_host::JsonTask;
+use cli_program::Failure;
 use cli_show::{heap_json, list_json, objects_json, soundness_json, statistics_json, types_json};
 use lezgauri::{Fault, Image, ImageRead};
 use std::alloc::{AllocError, Global};
@@ -13,13 +13,16 @@ pub(crate) fn json_of<'a>(
     image: &Image<Global>,
     version: u32,
     task: JsonTask<'a>,
-) -> Result<Vec<u8>, Unmade<'a>> {
+) -> Result<Vec<u8>, Failure<'a>> {
     match task {
         JsonTask::Check => Ok(soundness_json(alloc, None)?),
-        JsonTask::Stat => Ok(numbers(alloc, image, version)?),
+        JsonTask::Stat => {
+            let statistics = all_statistics(alloc, image, version)?;
+            Ok(statistics_json(alloc, statistics.as_slice())?)
+        }
         JsonTask::List => Ok(list(alloc, image)?),
         JsonTask::Types => Ok(types_json(alloc, image.types())?),
-        JsonTask::Show { name } => shown(alloc, image, name),
+        JsonTask::Show { name } => found(shown(alloc, image, name)?, name),
         JsonTask::Map => Ok(map(alloc, image)?),
     }
 }
@@ -42,10 +45,6 @@ pub(crate) fn unsound(alloc: Global, fault: Fault) -> Result<Option<Vec<u8>>, Al
     Ok(Some(soundness_json(alloc, Some((fault.code(), at)))?))
 }
 
-fn numbers(alloc: Global, image: &Image<Global>, version: u32) -> Result<Vec<u8>, AllocError> {
-    statistics_json(alloc, all_statistics(alloc, image, version)?.as_slice())
-}
-
 fn list(alloc: Global, image: &Image<Global>) -> Result<Vec<u8>, AllocError> {
     match image {
         Image::Seq(segment) => list_json(alloc, segment),
@@ -60,27 +59,13 @@ fn map(alloc: Global, image: &Image<Global>) -> Result<Vec<u8>, AllocError> {
     }
 }
 
-/// The objects that a name or a pattern selects, or all objects.
-fn shown<'a>(
-    alloc: Global,
-    image: &Image<Global>,
-    name: Option<&'a str>,
-) -> Result<Vec<u8>, Unmade<'a>> {
-    match selected(alloc, image, name)? {
-        Some(text) => Ok(text),
-        None => Err(Unmade::Absent(name.unwrap_or(""))),
-    }
-}
-
-fn selected(
+/// The objects that a name or a pattern selects, or all objects. `None` if nothing is selected.
+fn shown(
     alloc: Global,
     image: &Image<Global>,
     name: Option<&str>,
 ) -> Result<Option<Vec<u8>>, AllocError> {
-    let name = match name {
-        Some(name) => Some(name.as_bytes()),
-        None => None,
-    };
+    let name = bytes_of(name);
     match image {
         Image::Seq(segment) => objects_json(alloc, segment, name),
         Image::Best(segment) => objects_json(alloc, segment, name),

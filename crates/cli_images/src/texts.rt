@@ -6,7 +6,7 @@ use lezgauri::{Image, Place};
 use std::alloc::{AllocError, Global};
 
 /// The value of a path, or all values of its object. `None` if no value has the path.
-pub fn values_at(
+pub(crate) fn values_at(
     alloc: Global,
     image: &Image<Global>,
     path: &[u8],
@@ -41,7 +41,7 @@ fn value(alloc: Global, image: &Image<Global>, place: Place) -> Result<Vec<u8>, 
 }
 
 /// The content as a text that can be loaded.
-pub fn dumped(alloc: Global, image: &Image<Global>) -> Result<Vec<u8>, AllocError> {
+pub(crate) fn dumped(alloc: Global, image: &Image<Global>) -> Result<Vec<u8>, AllocError> {
     match image {
         Image::Seq(segment) => dump(alloc, segment),
         Image::Best(segment) => dump(alloc, segment),
@@ -49,7 +49,7 @@ pub fn dumped(alloc: Global, image: &Image<Global>) -> Result<Vec<u8>, AllocErro
 }
 
 /// A line for each value in which two images differ.
-pub fn differences(
+pub(crate) fn differences(
     alloc: Global,
     one: &Image<Global>,
     other: &Image<Global>,

@@ -1,11 +1,11 @@
 //! Listings of a segment's contents, as text.
 
-use crate::made::Unmade;
+use crate::door::unique_value;
+use cli_program::Failure;
 use cli_show::{
     Detail, Extent, Statistic, details, heap_lines, objects_text, picture, statistic_lines,
-    type_lines, type_words,
+    type_words,
 };
-use cli_values::values_at;
 use lezgauri::{Image, ImageRead, MAX_TYPES, Named, TypeId};
 use std::alloc::{AllocError, Global};
 
@@ -36,18 +36,18 @@ pub(crate) fn all_statistics(
     Ok(all)
 }
 
-/// The most important numbers of a segment, a line each.
-pub(crate) fn some_numbers(alloc: Global, image: &Image<Global>) -> Result<Vec<u8>, AllocError> {
-    statistic_lines(alloc, &statistics(image))
-}
-
-/// All numbers of a segment, a line each.
-pub(crate) fn all_numbers(
+/// The most important numbers of a segment, or all of them, a line each.
+pub(crate) fn numbers(
     alloc: Global,
     image: &Image<Global>,
     version: u32,
+    all: bool,
 ) -> Result<Vec<u8>, AllocError> {
-    statistic_lines(alloc, all_statistics(alloc, image, version)?.as_slice())
+    if all {
+        statistic_lines(alloc, all_statistics(alloc, image, version)?.as_slice())
+    } else {
+        statistic_lines(alloc, &statistics(image))
+    }
 }
 
 /// The names in ascending order with types and counts, and then the types of unique objects, a line each. If `typed`, each type's
@@ -60,7 +60,7 @@ pub(crate) fn objects(
     let mut lines = Vec::new(alloc);
     add_named(&mut lines, alloc, image, typed)?;
     for t in 0..MAX_TYPES as TypeId {
-        if has_unique(image, t) {
+        if unique_value(image, t).is_some() {
             lines.extend_from_slice(format!(in alloc; "unique {t}")?.as_bytes())?;
             end_line(&mut lines, alloc, image, t, typed)?;
         }
@@ -102,60 +102,43 @@ fn end_line(
     lines.extend_from_slice(b"\n")
 }
 
-/// The types, a line each, as in a client's text.
-pub(crate) fn types(alloc: Global, image: &Image<Global>) -> Result<Vec<u8>, AllocError> {
-    type_lines(alloc, image.types())
-}
-
-fn has_unique(image: &Image<Global>, t: TypeId) -> bool {
-    image.find_unique(t).is_ok()
-}
-
-/// The objects with their values, a line for each value: all objects, or those that a name or a pattern selects.
-pub(crate) fn shown<'a>(
-    alloc: Global,
-    image: &Image<Global>,
-    name: Option<&'a str>,
-    detail: Detail,
-) -> Result<Vec<u8>, Unmade<'a>> {
-    match selected(alloc, image, name, detail)? {
-        Some(text) => Ok(text),
-        None => Err(Unmade::Absent(name.unwrap_or(""))),
-    }
-}
-
 /// How `show` shows objects.
 pub(crate) fn detail(whole: bool, typed: bool) -> Detail {
     let extent = if whole { Extent::All } else { Extent::Cut };
     Detail { extent, typed }
 }
 
-/// The objects that a name or a pattern selects, or all objects. `None` if nothing is selected.
-fn selected(
+/// The objects with their values, a line for each value: all objects, or those that a name or a pattern selects. `None` if nothing
+/// is selected.
+pub(crate) fn shown(
     alloc: Global,
     image: &Image<Global>,
     name: Option<&str>,
     detail: Detail,
 ) -> Result<Option<Vec<u8>>, AllocError> {
-    let name = match name {
-        Some(name) => Some(name.as_bytes()),
-        None => None,
-    };
+    let name = bytes_of(name);
     match image {
         Image::Seq(segment) => objects_text(alloc, segment, name, detail),
         Image::Best(segment) => objects_text(alloc, segment, name, detail),
     }
 }
 
-/// The values of a path: one value, or all values of its object.
-pub(crate) fn values<'a>(
-    alloc: Global,
-    image: &Image<Global>,
-    path: &'a str,
-) -> Result<Vec<u8>, Unmade<'a>> {
-    match values_at(alloc, image, path.as_bytes())? {
+/// The bytes of a name, if there is one.
+pub(crate) fn bytes_of(name: Option<&str>) -> Option<&[u8]> {
+    match name {
+        Some(name) => Some(name.as_bytes()),
+        None => None,
+    }
+}
+
+/// The text about what has a name or a path, or that nothing has it.
+pub(crate) fn found<'a>(
+    text: Option<Vec<u8>>,
+    name: Option<&'a str>,
+) -> Result<Vec<u8>, Failure<'a>> {
+    match text {
         Some(text) => Ok(text),
-        None => Err(Unmade::Absent(path)),
+        None => Err(Failure::Absent(name.unwrap_or(""))),
     }
 }
 

@@ -1,70 +1,25 @@
+//! The results of tasks on images.
+
 use crate::door::{created, grown, opened, shrunk};
-use crate::editing::{delete_value, set_value};
+use crate::editing::{Unset, delete, set};
 use crate::json_texts::json_of;
-use crate::listing::{
-    all_numbers, blocks, detail, objects, pictured, shown, size, some_numbers, types, values,
-};
+use crate::listing::{blocks, detail, found, numbers, objects, pictured, shown, size};
+use crate::texts::{dumped, values_at};
 use cli_host::{Allocator, ImageTask, Index, NewImage};
 use cli_program::Failure;
-use cli_values::dumped;
-use lezgauri::{AllocatorKind, Fault, Image, IndexKind};
-use std::alloc::{AllocError, Global};
+use cli_show::type_lines;
+use lezgauri::{AllocatorKind, Fault, Image, ImageRead, IndexKind};
+use std::alloc::Global;
 
 /// The result of a task on an image: a text, and the image to save if it changes.
 #[derive(Drop)]
-pub struct Made {
+pub(crate) struct Made {
     pub text: Vec<u8>,
     pub image: Option<Vec<u8>>,
 }
 
-/// Why a task on an image has no result.
-#[derive(Drop)]
-pub enum Unmade<'a> {
-    /// A fault of the image, or of the task's arguments.
-    Fault(Fault),
-    /// No object has this name, or no value has this path.
-    Absent(&'a str),
-    /// No free block of the segment is large enough for the value with this path.
-    Full(&'a str),
-    /// The arguments don't fit the image, for this reason.
-    Words(String),
-}
-
-impl Unmade<'_> {
-    /// That the arguments don't fit the image, for a reason.
-    pub(crate) fn words(alloc: Global, reason: &str) -> Self {
-        match format!(in alloc; "error: {reason}\n") {
-            Ok(words) => Unmade::Words(words),
-            Err(_) => Unmade::Fault(Fault::Memory),
-        }
-    }
-}
-
-impl From<Fault> for Unmade<'_> {
-    fn from(fault: Fault) -> Self {
-        Unmade::Fault(fault)
-    }
-}
-
-impl<'a> From<Unmade<'a>> for Failure<'a> {
-    fn from(unmade: Unmade<'a>) -> Self {
-        match unmade {
-            Unmade::Fault(fault) => Failure::from(fault),
-            Unmade::Absent(name) => Failure::Absent(name),
-            Unmade::Full(name) => Failure::Full(name),
-            Unmade::Words(words) => Failure::Words(words),
-        }
-    }
-}
-
-impl From<AllocError> for Unmade<'_> {
-    fn from(_: AllocError) -> Self {
-        Unmade::Fault(Fault::Memory)
-    }
-}
-
 /// The image of an empty segment.
-pub fn new_image(alloc: Global, new: &NewImage) -> Result<Vec<u8>, Fault> {
+pub(crate) fn new_image(alloc: Global, new: &NewImage) -> Result<Vec<u8>, Fault> {
     let allocator = match new.allocator {
         Allocator::Seq => AllocatorKind::Seq,
         Allocator::Best => AllocatorKind::Best,
@@ -77,7 +32,11 @@ pub fn new_image(alloc: Global, new: &NewImage) -> Result<Vec<u8>, Fault> {
 }
 
 /// Does a task on an image.
-pub fn made_of<'a>(alloc: Global, bytes: Vec<u8>, task: ImageTask<'a>) -> Result<Made, Unmade<'a>> {
+pub(crate) fn made_of<'a>(
+    alloc: Global,
+    bytes: Vec<u8>,
+    task: ImageTask<'a>,
+) -> Result<Made, Failure<'a>> {
     let version = version_of(bytes.as_slice());
     let mut image = opened(alloc, bytes)?;
     let text = text_of(alloc, &mut image, version, task)?;
@@ -103,18 +62,22 @@ fn text_of<'a>(
     image: &mut Image<Global>,
     version: u32,
     task: ImageTask<'a>,
-) -> Result<Vec<u8>, Unmade<'a>> {
+) -> Result<Vec<u8>, Failure<'a>> {
     match task {
         ImageTask::Check => Ok(Vec::from_slice(alloc, b"ok\n")?),
         ImageTask::Json(task) => json_of(alloc, image, version, task),
-        ImageTask::Stat { all: false } => Ok(some_numbers(alloc, image)?),
-        ImageTask::Stat { all: true } => Ok(all_numbers(alloc, image, version)?),
+        ImageTask::Stat { all } => Ok(numbers(alloc, image, version, all)?),
         ImageTask::List { typed } => Ok(objects(alloc, image, typed)?),
-        ImageTask::Types => Ok(types(alloc, image)?),
-        ImageTask::Show { name, whole, typed } => shown(alloc, image, name, detail(whole, typed)),
-        ImageTask::Get { path } => values(alloc, image, path),
-        ImageTask::Set { path, value } => set_value(alloc, image, path, value),
-        ImageTask::Delete { path } => delete_value(alloc, image, path),
+        ImageTask::Types => Ok(type_lines(alloc, image.types())?),
+        ImageTask::Show { name, whole, typed } => {
+            found(shown(alloc, image, name, detail(whole, typed))?, name)
+        }
+        ImageTask::Get { path } => found(values_at(alloc, image, path.as_bytes())?, Some(path)),
+        ImageTask::Set { path, value } => {
+            let done = set(alloc, image, path.as_bytes(), value.as_bytes());
+            changed(alloc, done, path)
+        }
+        ImageTask::Delete { path } => changed(alloc, delete(image, path.as_bytes()), path),
         ImageTask::Dump => Ok(dumped(alloc, image)?),
         ImageTask::Map => Ok(blocks(alloc, image)?),
         ImageTask::Picture(_) => Ok(pictured(alloc, image)?),
@@ -122,6 +85,18 @@ fn text_of<'a>(
         ImageTask::Shrink => Ok(size(alloc, shrunk(image))?),
         // opening an image upgrades it to version 2
         ImageTask::Upgrade => Ok(Vec::from_slice(alloc, b"version 2\n")?),
+    }
+}
+
+/// The text to print after a change of the value with this path, which is empty.
+fn changed<'a>(
+    alloc: Global,
+    done: Result<(), Unset>,
+    path: &'a str,
+) -> Result<Vec<u8>, Failure<'a>> {
+    match done {
+        Ok(()) => Ok(Vec::new(alloc)),
+        Err(unset) => Err(unset.failure(alloc, path)),
     }
 }
 
