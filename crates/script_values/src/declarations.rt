@@ -1,8 +1,8 @@
 //! Declarations: constants, structs, objects, functions and the `fail` part.
 
 use script_code::{
-    About, Code, Error, ErrorKind, Function, MOST_DEPTH, Member, NamedValue, Object, ObjectKind,
-    Problem, Program, Shape, StructAt, StructType, Trouble, TypeAt, append,
+    About, Code, Error, ErrorKind, Function, Member, NamedValue, Object, ObjectKind, Problem,
+    Program, Shape, StructAt, StructType, Trouble, TypeAt, append,
 };
 use script_places::{Emitter, constant_kind, near_struct};
 use script_syntax::{
@@ -50,19 +50,20 @@ fn check_nesting(emitter: &mut Emitter, tree: &Tree<'_>) {
         if nested.depth > MOST_NESTED {
             return report_nested(emitter, tree, nested.block);
         }
+        let (block, depth) = (nested.block, nested.depth);
         add_nested(
             &mut emitter.code,
             tree,
             &mut waiting,
-            nested.block.statements,
-            nested.depth,
+            block.statements,
+            depth,
         );
         add_nested(
             &mut emitter.code,
             tree,
             &mut waiting,
-            nested.block.following,
-            nested.depth,
+            block.following,
+            depth,
         );
     }
 }
@@ -122,10 +123,8 @@ fn report_about(emitter: &mut Emitter, span: Span, kind: ErrorKind, about: About
 
 /// Reports a name which is declared already.
 fn check_new(emitter: &mut Emitter, tree: &Tree<'_>, span: Span) {
-    let word = tree.word(span);
-    match emitter.program.declared(tree, word) {
-        Some((kind, line)) => report_about(emitter, span, kind, About::number(line)),
-        None => {}
+    if let Some((kind, line)) = emitter.program.declared(tree, tree.word(span)) {
+        report_about(emitter, span, kind, About::number(line))
     }
 }
 
@@ -136,75 +135,51 @@ fn declare_name(emitter: &mut Emitter, tree: &Tree<'_>, declaration: Declaration
         return declare_fail(emitter, tree, name, block);
     }
     check_new(emitter, tree, name);
+    let program = &mut emitter.program;
+    let code = &mut emitter.code;
     match declaration.kind {
-        DeclarationKind::Constant(expression) => add_constant(emitter, name, expression),
-        DeclarationKind::Struct(_) => add_struct(emitter, name),
+        DeclarationKind::Constant(expression) => {
+            let value = NamedValue {
+                name,
+                expression,
+                value: None,
+            };
+            append(&mut program.values, value, &mut code.trouble)
+        }
+        DeclarationKind::Struct(_) => {
+            let (first, end) = (0, 0);
+            let added = StructType { name, first, end };
+            append(&mut program.types.structs, added, &mut code.trouble)
+        }
         DeclarationKind::Function {
             parameters,
             gives_number,
             body,
-        } => add_function(
-            emitter,
-            Function {
+        } => {
+            let function = Function {
                 name,
                 parameters,
                 gives_number,
                 body,
-            },
-        ),
-        kind => add_object(emitter, tree, name, object_kind(kind)),
+            };
+            append(&mut program.functions, function, &mut code.trouble)
+        }
+        kind => {
+            let object = new_object(code, tree, name, object_kind(kind));
+            append(&mut program.objects, object, &mut code.trouble)
+        }
     }
 }
 
-fn add_constant(emitter: &mut Emitter, name: Span, expression: ExpressionAt) {
-    let constant = NamedValue {
-        name,
-        expression,
-        value: None,
-    };
-    append(
-        &mut emitter.program.values,
-        constant,
-        &mut emitter.code.trouble,
-    )
-}
-
-fn add_struct(emitter: &mut Emitter, name: Span) {
-    let added = StructType {
-        name,
-        first: 0,
-        end: 0,
-    };
-    append(
-        &mut emitter.program.types.structs,
-        added,
-        &mut emitter.code.trouble,
-    )
-}
-
-fn add_function(emitter: &mut Emitter, function: Function) {
-    append(
-        &mut emitter.program.functions,
-        function,
-        &mut emitter.code.trouble,
-    )
-}
-
-fn add_object(emitter: &mut Emitter, tree: &Tree<'_>, name: Span, kind: ObjectKind) {
-    let word = tree.word(name);
-    let constant = emitter.code.constant(constant_kind(kind), word);
-    let object = Object {
+/// An object whose type isn't known yet.
+fn new_object(code: &mut Code, tree: &Tree<'_>, name: Span, kind: ObjectKind) -> Object {
+    Object {
         name,
         kind,
         value_type: TypeAt::INT,
-        constant,
+        constant: code.constant(constant_kind(kind), tree.word(name)),
         is_used: false,
-    };
-    append(
-        &mut emitter.program.objects,
-        object,
-        &mut emitter.code.trouble,
-    )
+    }
 }
 
 fn declare_fail(emitter: &mut Emitter, tree: &Tree<'_>, span: Span, block: Block) {
@@ -218,25 +193,14 @@ fn declare_fail(emitter: &mut Emitter, tree: &Tree<'_>, span: Span, block: Block
 /// Reports what would leave the statement that a `fail` part is used in.
 fn check_leaving(emitter: &mut Emitter, tree: &Tree<'_>, block: Block) {
     let mut waiting = Vec::new(emitter.alloc);
-    add(&mut waiting, block, false, &mut emitter.code.trouble);
+    add_inner(&mut waiting, block, false, &mut emitter.code.trouble);
     for _ in 0..MOST_BLOCKS {
         let Some(inner) = waiting.pop() else {
             return;
         };
-        check_statements(
-            emitter,
-            tree,
-            &mut waiting,
-            inner.block.statements,
-            inner.is_in_loop,
-        );
-        check_statements(
-            emitter,
-            tree,
-            &mut waiting,
-            inner.block.following,
-            inner.is_in_loop,
-        );
+        let (block, is_in_loop) = (inner.block, inner.is_in_loop);
+        check_statements(emitter, tree, &mut waiting, block.statements, is_in_loop);
+        check_statements(emitter, tree, &mut waiting, block.following, is_in_loop);
     }
 }
 
@@ -258,10 +222,10 @@ fn check_statements(
         }
         if let Some(body) = statement.body {
             let is_inside = is_in_loop || is_loop(statement.kind);
-            add(waiting, body, is_inside, &mut emitter.code.trouble);
+            add_inner(waiting, body, is_inside, &mut emitter.code.trouble);
         }
         if let Some(part) = statement.otherwise {
-            add(waiting, part.block, is_in_loop, &mut emitter.code.trouble);
+            add_inner(waiting, part.block, is_in_loop, &mut emitter.code.trouble);
         }
     }
 }
@@ -295,10 +259,7 @@ fn find_value(emitter: &mut Emitter, tree: &Tree<'_>, at: usize, reports: bool) 
     if found.value.is_some() {
         return false;
     }
-    match emitter
-        .program
-        .fold(tree, &emitter.names, found.expression, MOST_DEPTH)
-    {
+    match emitter.fold(tree, found.expression) {
         Ok(value) => {
             if let Some(found) = emitter.program.values.get_mut(at) {
                 found.value = Some(value);
@@ -441,46 +402,35 @@ fn add_members(emitter: &mut Emitter, waiting: &mut Vec<usize>, at: StructAt) {
 
 /// Finds the type and the name of an object, and the types of a function's parameters.
 fn declare_object(emitter: &mut Emitter, tree: &Tree<'_>, declaration: Declaration) {
-    match declaration.kind {
+    let (value_type, kind, segment_name) = match declaration.kind {
         DeclarationKind::Object {
             value_type,
             count,
             segment_name,
         } => {
             let kind = single_or_array(emitter, tree, declaration.span, count);
-            set_object(
-                emitter,
-                tree,
-                declaration.span,
-                value_type,
-                kind,
-                segment_name,
-            )
+            (value_type, kind, segment_name)
         }
         DeclarationKind::Family {
             value_type,
             segment_name,
-        } => set_object(
-            emitter,
-            tree,
-            declaration.span,
-            value_type,
-            ObjectKind::Family,
-            segment_name,
-        ),
-        DeclarationKind::Unique(value_type) => {
-            set_object(
-                emitter,
-                tree,
-                declaration.span,
-                value_type,
-                ObjectKind::Unique,
-                None,
-            )
+        } => (value_type, ObjectKind::Family, segment_name),
+        DeclarationKind::Unique(value_type) => (value_type, ObjectKind::Unique, None),
+        DeclarationKind::Function { parameters, .. } => {
+            return check_parameters(emitter, tree, parameters);
         }
-        DeclarationKind::Function { parameters, .. } => check_parameters(emitter, tree, parameters),
-        DeclarationKind::Constant(_) | DeclarationKind::Struct(_) | DeclarationKind::Fail(_) => {}
-    }
+        DeclarationKind::Constant(_) | DeclarationKind::Struct(_) | DeclarationKind::Fail(_) => {
+            return;
+        }
+    };
+    set_object(
+        emitter,
+        tree,
+        declaration.span,
+        value_type,
+        kind,
+        segment_name,
+    )
 }
 
 /// Finds the types of a function's parameters.
@@ -563,7 +513,7 @@ fn add_nested_block(waiting: &mut Vec<Nested>, block: Block, depth: usize, troub
     append(waiting, Nested { block, depth }, trouble);
 }
 
-fn add(waiting: &mut Vec<Inner>, block: Block, is_in_loop: bool, trouble: &mut Trouble) {
+fn add_inner(waiting: &mut Vec<Inner>, block: Block, is_in_loop: bool, trouble: &mut Trouble) {
     append(waiting, Inner { block, is_in_loop }, trouble);
 }
 
