@@ -38,7 +38,7 @@ pub struct Compiler {
     pub seen: SeenNames,
     /// The statements that are being compiled, each in the one before.
     pub statements: Vec<Begun>,
-    /// Those of them that can be compiled in another way if their parts are too deep.
+    /// The statements among them that can be compiled in another way if their parts are too deep.
     pub choices: Vec<Begun>,
 }
 

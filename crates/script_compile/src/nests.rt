@@ -126,7 +126,7 @@ impl Nest {
         self.copies = Copies::new();
     }
 
-    /// Lets these registers go. That of statements that ran is free already.
+    /// Lets these registers go. The flag of statements that ran is free already.
     fn release(&self, code: &mut Code) {
         for index in 0..COUNT {
             if index < self.wanted && code.usage.is_held(self.reserved[index]) {

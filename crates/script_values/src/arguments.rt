@@ -22,7 +22,7 @@ pub struct Call {
     held: [bool; COUNT],
 }
 
-/// The position of the function with a name. If there is none, that is noted.
+/// The position of the function with a name. It is an error if there isn't one.
 pub fn called_function(emitter: &mut Emitter, tree: &Tree<'_>, span: Span) -> Option<usize> {
     let word = tree.word(span);
     let found = emitter.program.function_named(tree, word);

@@ -2,11 +2,12 @@
 
 use script_code::{
     About, Code, Error, ErrorKind, Function, Member, NamedValue, Object, ObjectKind, Problem,
-    Program, Shape, StructAt, StructType, Trouble, TypeAt, append,
+    Program, Shape, StructAt, StructType, TypeAt, append,
 };
 use script_places::{Emitter, constant_kind, near_struct};
 use script_syntax::{
-    Block, Declaration, DeclarationKind, ExpressionAt, Range, Span, StatementKind, Tree, Type,
+    Block, Declaration, DeclarationKind, ExpressionAt, Range, Span, Statement, StatementKind, Tree,
+    Type,
 };
 
 /// The most bytes of an object's name.
@@ -44,59 +45,69 @@ fn check_nesting(emitter: &mut Emitter, tree: &Tree<'_>) {
     let mut waiting = Vec::new(emitter.alloc);
     add_outermost(&mut emitter.code, tree, &mut waiting);
     for _ in 0..MOST_BLOCKS {
-        let Some(nested) = waiting.pop() else {
+        let Some(visited) = waiting.pop() else {
             return;
         };
-        if nested.depth > MOST_NESTED {
-            return report_nested(emitter, tree, nested.block);
+        let block = visited.block;
+        if visited.depth > MOST_NESTED {
+            return report_nested(emitter, tree, block);
         }
-        let (block, depth) = (nested.block, nested.depth);
-        add_nested(
-            &mut emitter.code,
-            tree,
-            &mut waiting,
-            block.statements,
-            depth,
-        );
-        add_nested(
-            &mut emitter.code,
-            tree,
-            &mut waiting,
-            block.following,
-            depth,
-        );
+        let code = &mut emitter.code;
+        add_nested(code, tree, &mut waiting, block.statements, &visited);
+        add_nested(code, tree, &mut waiting, block.following, &visited);
     }
 }
 
 /// Adds the outermost blocks of the program.
-fn add_outermost(code: &mut Code, tree: &Tree<'_>, waiting: &mut Vec<Nested>) {
-    add_nested_block(waiting, tree.body(), 1, &mut code.trouble);
+fn add_outermost(code: &mut Code, tree: &Tree<'_>, waiting: &mut Vec<Visited>) {
+    append(waiting, Visited::outermost(tree.body()), &mut code.trouble);
     for declaration in tree.declarations() {
         match declaration.kind {
             DeclarationKind::Fail(block) | DeclarationKind::Function { body: block, .. } => {
-                add_nested_block(waiting, block, 1, &mut code.trouble)
+                append(waiting, Visited::outermost(block), &mut code.trouble)
             }
             _ => {}
         }
     }
 }
 
-/// Adds the blocks of statements at this depth.
+/// Adds the blocks of the statements of a visited block.
 fn add_nested(
     code: &mut Code,
     tree: &Tree<'_>,
-    waiting: &mut Vec<Nested>,
+    waiting: &mut Vec<Visited>,
     range: Range,
-    depth: usize,
+    visited: &Visited,
 ) {
-    let depth = depth.saturating_add(1);
     for statement in tree.statements(range) {
-        if let Some(body) = statement.body {
-            add_nested_block(waiting, body, depth, &mut code.trouble);
-        }
-        if let Some(part) = statement.otherwise {
-            add_nested_block(waiting, part.block, depth, &mut code.trouble);
-        }
+        add_blocks(code, waiting, statement, visited);
+    }
+}
+
+/// Adds the blocks of a statement of a visited block.
+fn add_blocks(
+    code: &mut Code,
+    waiting: &mut Vec<Visited>,
+    statement: &Statement,
+    visited: &Visited,
+) {
+    let depth = visited.depth.saturating_add(1);
+    if let Some(block) = statement.body {
+        let is_in_loop = visited.is_in_loop || is_loop(statement.kind);
+        let body = Visited {
+            block,
+            depth,
+            is_in_loop,
+        };
+        append(waiting, body, &mut code.trouble);
+    }
+    if let Some(part) = statement.otherwise {
+        let otherwise = Visited {
+            block: part.block,
+            depth,
+            is_in_loop: visited.is_in_loop,
+        };
+        append(waiting, otherwise, &mut code.trouble);
     }
 }
 
@@ -193,40 +204,38 @@ fn declare_fail(emitter: &mut Emitter, tree: &Tree<'_>, span: Span, block: Block
 /// Reports what would leave the statement that a `fail` part is used in.
 fn check_leaving(emitter: &mut Emitter, tree: &Tree<'_>, block: Block) {
     let mut waiting = Vec::new(emitter.alloc);
-    add_inner(&mut waiting, block, false, &mut emitter.code.trouble);
+    append(
+        &mut waiting,
+        Visited::outermost(block),
+        &mut emitter.code.trouble,
+    );
     for _ in 0..MOST_BLOCKS {
-        let Some(inner) = waiting.pop() else {
+        let Some(visited) = waiting.pop() else {
             return;
         };
-        let (block, is_in_loop) = (inner.block, inner.is_in_loop);
-        check_statements(emitter, tree, &mut waiting, block.statements, is_in_loop);
-        check_statements(emitter, tree, &mut waiting, block.following, is_in_loop);
+        let block = visited.block;
+        check_statements(emitter, tree, &mut waiting, block.statements, &visited);
+        check_statements(emitter, tree, &mut waiting, block.following, &visited);
     }
 }
 
 fn check_statements(
     emitter: &mut Emitter,
     tree: &Tree<'_>,
-    waiting: &mut Vec<Inner>,
+    waiting: &mut Vec<Visited>,
     range: Range,
-    is_in_loop: bool,
+    visited: &Visited,
 ) {
     for statement in tree.statements(range) {
         let leaves = match statement.kind {
             StatementKind::Return(_) => true,
-            StatementKind::Break | StatementKind::Continue => !is_in_loop,
+            StatementKind::Break | StatementKind::Continue => !visited.is_in_loop,
             _ => false,
         };
         if leaves {
             report_at(emitter, statement.span, ErrorKind::LEAVES_FAIL);
         }
-        if let Some(body) = statement.body {
-            let is_inside = is_in_loop || is_loop(statement.kind);
-            add_inner(waiting, body, is_inside, &mut emitter.code.trouble);
-        }
-        if let Some(part) = statement.otherwise {
-            add_inner(waiting, part.block, is_in_loop, &mut emitter.code.trouble);
-        }
+        add_blocks(&mut emitter.code, waiting, statement, visited);
     }
 }
 
@@ -367,7 +376,7 @@ fn cut_field(emitter: &mut Emitter, member: usize) {
 /// Whether a field's value contains a struct, without an `own` or a container between.
 fn lies_in(emitter: &mut Emitter, member: usize, wanted: StructAt) -> bool {
     let mut waiting = Vec::new(emitter.alloc);
-    add_member(&mut waiting, member, &mut emitter.code.trouble);
+    append(&mut waiting, member, &mut emitter.code.trouble);
     for _ in 0..MOST_BLOCKS {
         let Some(member) = waiting.pop() else {
             return false;
@@ -396,7 +405,7 @@ fn add_members(emitter: &mut Emitter, waiting: &mut Vec<usize>, at: StructAt) {
         return;
     };
     for member in found.first..found.end {
-        add_member(waiting, member, &mut emitter.code.trouble);
+        append(waiting, member, &mut emitter.code.trouble);
     }
 }
 
@@ -495,26 +504,23 @@ fn set_object(
     }
 }
 
-/// A block that is visited, and whether it is in a loop.
+/// A block that is visited.
 #[derive(Clone, Copy)]
-struct Inner {
+struct Visited {
     block: Block,
+    /// How many blocks it is in, with itself.
+    depth: usize,
     is_in_loop: bool,
 }
 
-/// A block that is visited, and how many blocks it is in, with itself.
-#[derive(Clone, Copy)]
-struct Nested {
-    block: Block,
-    depth: usize,
-}
-
-fn add_nested_block(waiting: &mut Vec<Nested>, block: Block, depth: usize, trouble: &mut Trouble) {
-    append(waiting, Nested { block, depth }, trouble);
-}
-
-fn add_inner(waiting: &mut Vec<Inner>, block: Block, is_in_loop: bool, trouble: &mut Trouble) {
-    append(waiting, Inner { block, is_in_loop }, trouble);
+impl Visited {
+    fn outermost(block: Block) -> Visited {
+        Visited {
+            block,
+            depth: 1,
+            is_in_loop: false,
+        }
+    }
 }
 
 fn is_loop(kind: StatementKind) -> bool {
@@ -522,10 +528,6 @@ fn is_loop(kind: StatementKind) -> bool {
         kind,
         StatementKind::For { .. } | StatementKind::While { .. }
     )
-}
-
-fn add_member(waiting: &mut Vec<usize>, member: usize, trouble: &mut Trouble) {
-    append(waiting, member, trouble);
 }
 
 /// The kind of a declared object. The length of an array isn't known yet.
