@@ -1,8 +1,9 @@
 //! Blocks, and what leaves them.
 
-use crate::compiler::{Compiler, Construct, ConstructKind};
-use script_code::{ErrorKind, Register, append};
-use script_places::{Sequence, Task};
+use crate::compiler::Compiler;
+use crate::constructs::ConstructKind;
+use script_code::{ErrorKind, Register};
+use script_places::{Emitter, Sequence, Task};
 use script_syntax::{Block, Range, Span, Statement, StatementAt, StatementKind, Tree};
 
 /// No statements.
@@ -11,137 +12,61 @@ const EMPTY: Range = Range { first: 0, end: 0 };
 impl Compiler {
     pub fn begin_main(&mut self, tree: &Tree<'_>) {
         self.push_construct(ConstructKind::Main);
-        self.start_main(tree)
-    }
-
-    fn start_main(&mut self, tree: &Tree<'_>) {
-        self.start_running();
-        let body = tree.body();
-        self.emitter.then(&[Task::Block(body), Task::EndMain])
+        self.start_block(tree.body(), Task::EndMain)
     }
 
     pub fn end_main(&mut self, tree: &Tree<'_>) {
         if self.restart_running() {
-            return self.start_main(tree);
+            return self.start_block(tree.body(), Task::EndMain);
         }
-        let _ = self.constructs.pop();
+        self.constructs.pop(&mut self.emitter.code)
     }
 
-    /// Adds a construct that begins here.
+    /// Adds a construct that begins here. Until it ends, walks may keep their parts open. Going back to
+    /// its beginning doesn't end it.
     pub fn push_construct(&mut self, kind: ConstructKind) {
-        let construct = Construct {
-            kind,
-            mark: self.mark(),
-            running: None,
-            wants_running: false,
-            exits: 0,
-            breaks: 0,
-            forgets: [false; 16],
-        };
-        append(
-            &mut self.constructs,
-            construct,
-            &mut self.emitter.code.trouble,
-        );
-        let mark = self.mark();
-        if let Some(construct) = self.constructs.last_mut() {
-            construct.mark = mark;
-        }
+        let is_flat = self.emitter.is_flat;
+        self.emitter.push_task(Task::SetFlat(is_flat));
+        self.emitter.is_flat = false;
+        let mut mark = self.mark();
+        mark.constructs = mark.constructs.saturating_add(1);
+        self.constructs
+            .push(kind, mark, &mut self.emitter.code.trouble)
     }
 
-    /// The register that tells whether the innermost construct continues.
-    pub fn running(&self) -> Option<Register> {
-        self.constructs.last()?.running
-    }
-
-    /// Takes the register that tells whether the construct continues, if one is wanted.
-    pub fn start_running(&mut self) {
-        let Some(construct) = self.constructs.last().copied() else {
-            return;
-        };
-        if !construct.wants_running {
-            return;
-        }
-        let register = self.emitter.code.literal_held(1);
-        if let Some(construct) = self.constructs.last_mut() {
-            construct.running = Some(register);
-        }
+    /// Begins the block of the innermost construct, after which the construct ends by this task.
+    pub fn start_block(&mut self, block: Block, end: Task) {
+        self.constructs.start_running(&mut self.emitter.code);
+        self.emitter.then(&[Task::Block(block), end])
     }
 
     /// Goes back to the beginning of the construct if that needs a register and has none.
     pub fn restart_running(&mut self) -> bool {
-        let Some(construct) = self.constructs.last().copied() else {
-            return false;
-        };
-        if !construct.wants_running || construct.running.is_some() {
-            return false;
+        match self.constructs.last() {
+            Some(construct) if construct.lacks_running() => {
+                self.go_back(&construct.mark);
+                self.constructs.restart(&construct.mark, &construct.forgets);
+                true
+            }
+            _ => false,
         }
-        self.go_back(&construct.mark);
-        self.reset_construct();
-        true
-    }
-
-    /// The construct is compiled again from its beginning.
-    pub fn reset_construct(&mut self) {
-        if let Some(construct) = self.constructs.last_mut() {
-            construct.running = None;
-            construct.exits = 0;
-            construct.breaks = 0;
-        }
-    }
-
-    /// A block whose names end with it.
-    pub fn begin_block(&mut self, block: Block) {
-        let names = self.emitter.names.len();
-        self.emitter.then(&[
-            Task::Sequence(Sequence::of(block, names, false)),
-            Task::EndScope(names),
-        ])
-    }
-
-    /// A block whose names begin at a position. They end with it, or with what follows it.
-    pub fn begin_body(&mut self, block: Block, names: usize, is_inside: bool) {
-        self.emitter.then(&[
-            Task::Sequence(Sequence::of(block, names, is_inside)),
-            Task::EndScope(names),
-        ])
     }
 
     /// Compiles the next statement of a sequence.
     pub fn next_statement(&mut self, tree: &Tree<'_>, sequence: Sequence) {
-        let mut rest = sequence;
-        if rest.now.is_empty() {
-            if rest.later.is_empty() {
-                self.rest = None;
-                return;
-            }
-            if !rest.is_inside {
-                self.end_scope(rest.names);
-            }
-            rest.now = rest.later;
-            rest.later = EMPTY;
+        if sequence.now.is_empty() && !sequence.later.is_empty() && !sequence.is_inside {
+            self.end_scope(sequence.names);
         }
-        let Some(statement) = rest.now.first_statement() else {
+        let mut rest = sequence;
+        let Some(statement) = take_first(tree, &mut rest) else {
             self.rest = None;
             return;
         };
-        rest.now.first = rest.now.first.saturating_add(1);
-        if is_let(tree, statement) {
-            rest.has_names = true;
-        }
-        let (exits, deferred) = (self.exits(), self.deferred.len());
+        let (exits, deferred) = (self.constructs.exits(), self.nests.deferred_count());
         self.emitter.then(&[
             Task::Statement(statement),
             Task::AfterStatement(rest, exits, deferred),
         ])
-    }
-
-    /// How many statements of the innermost construct leave.
-    pub fn exits(&self) -> usize {
-        match self.constructs.last() {
-            Some(construct) => construct.exits,
-            None => 0,
-        }
     }
 
     /// Continues a sequence. If the last statement may have left, what follows runs only if it
@@ -153,48 +78,30 @@ impl Compiler {
         exits: usize,
         deferred: usize,
     ) {
-        if self.deferred.len() > deferred && !rest.is_empty() {
+        if self.nests.deferred_count() > deferred && !rest.is_empty() {
             return self.defer(tree, rest);
         }
-        if rest.is_empty() || self.exits() <= exits {
-            return self.emitter.then(&[Task::Sequence(rest)]);
+        if rest.is_empty() || self.constructs.exits() <= exits {
+            return self.emitter.push_task(Task::Sequence(rest));
         }
-        let Some(construct) = self.constructs.last_mut() else {
-            return;
-        };
-        let Some(running) = construct.running else {
-            construct.wants_running = true;
-            return self.emitter.then(&[Task::Sequence(rest)]);
-        };
-        if rest.is_guarded && !rest.has_names {
-            self.rest = Some(rest);
-            return;
+        match self.constructs.need_running() {
+            Some(_) if rest.is_guarded && !rest.has_names => {
+                self.rest = Some(rest);
+            }
+            Some(running) => open_guard(&mut self.emitter, running, rest),
+            None => self.emitter.push_task(Task::Sequence(rest)),
         }
-        self.open_guard(running, rest)
-    }
-
-    fn open_guard(&mut self, running: Register, rest: Sequence) {
-        self.emitter.code.open_if(running);
-        let mut rest = rest;
-        rest.is_guarded = true;
-        rest.has_names = false;
-        let span = self.emitter.code.span;
-        self.emitter
-            .then(&[Task::Sequence(rest), Task::EndGuard(span)])
     }
 
     /// Ends statements that run only if the construct continues. Those that follow are guarded
     /// again.
     pub fn end_guard(&mut self, span: Span) {
-        self.emitter.code.close();
-        self.emitter.code.usage.tidy();
-        self.emitter.code.span = span;
-        let Some(rest) = self.rest.take() else {
-            return;
-        };
-        match self.running() {
-            Some(running) => self.open_guard(running, rest),
-            None => {}
+        let code = &mut self.emitter.code;
+        code.close();
+        code.usage.tidy();
+        code.span = span;
+        if let (Some(rest), Some(running)) = (self.rest.take(), self.constructs.running()) {
+            open_guard(&mut self.emitter, running, rest)
         }
     }
 
@@ -204,64 +111,15 @@ impl Compiler {
             return;
         };
         let target = match found.kind {
-            StatementKind::Break | StatementKind::Continue => self.innermost_loop(found.span),
-            StatementKind::Return(_) => self.innermost_function(found.span),
-            _ => 0,
+            StatementKind::Break | StatementKind::Continue => self.constructs.innermost_loop(),
+            StatementKind::Return(_) => self.constructs.innermost_function(),
+            _ => Some(0),
         };
         let stays = matches!(found.kind, StatementKind::Continue);
-        for at in (target..self.constructs.len()).rev() {
-            self.leave_construct(at, stays && at == target);
+        match target {
+            Some(target) => self.constructs.leave(target, stays, &mut self.emitter.code),
+            None => refuse_leaving(&mut self.emitter, found.span),
         }
-    }
-
-    /// Leaves the rest of a construct's turn, and the construct unless it `stays`.
-    fn leave_construct(&mut self, at: usize, stays: bool) {
-        let Some(construct) = self.constructs.get_mut(at) else {
-            return;
-        };
-        construct.exits = construct.exits.saturating_add(1);
-        if !stays {
-            construct.breaks = construct.breaks.saturating_add(1);
-        }
-        let (running, kind) = (construct.running, construct.kind);
-        if let Some(running) = running {
-            self.emitter.code.number(running, 0);
-        }
-        match kind {
-            ConstructKind::Loop(found) if !stays => self.emitter.code.number(found.go, 0),
-            _ => {}
-        }
-    }
-
-    fn innermost_loop(&mut self, span: Span) -> usize {
-        match self.constructs.last() {
-            Some(
-                Construct {
-                    kind: ConstructKind::Loop(_),
-                    ..
-                },
-            ) => self.constructs.len().saturating_sub(1),
-            _ if self.emitter.errors.is_empty() => {
-                self.emitter.error(span, ErrorKind::NOT_IN_LOOP);
-                0
-            }
-            _ => {
-                self.emitter.skip();
-                0
-            }
-        }
-    }
-
-    fn innermost_function(&mut self, span: Span) -> usize {
-        for at in (0..self.constructs.len()).rev() {
-            if let Some(construct) = self.constructs.get(at) {
-                if let ConstructKind::Function { .. } = construct.kind {
-                    return at;
-                }
-            }
-        }
-        self.emitter.error(span, ErrorKind::NOT_IN_FUNCTION);
-        0
     }
 
     /// `return`, with its value.
@@ -276,8 +134,10 @@ impl Compiler {
         else {
             return;
         };
-        let at = self.innermost_function(span);
-        match (value, self.result_of(at)) {
+        let Some(call) = self.constructs.innermost_call() else {
+            return self.emitter.error(span, ErrorKind::NOT_IN_FUNCTION);
+        };
+        match (value, call.result) {
             (None, None) => self.leave(tree, statement),
             (Some(value), Some(result)) => self.emitter.then(&[
                 Task::Evaluate(value, Some(result)),
@@ -288,20 +148,46 @@ impl Compiler {
             (Some(_), None) => self.emitter.error(span, ErrorKind::RETURN_WITH),
         }
     }
-
-    /// The register of the number that a function gives.
-    fn result_of(&self, at: usize) -> Option<Register> {
-        match self.constructs.get(at)?.kind {
-            ConstructKind::Function { result, .. } => result,
-            _ => None,
-        }
-    }
 }
 
-/// Whether the statement is a `let`.
-fn is_let(tree: &Tree<'_>, statement: StatementAt) -> bool {
-    match tree.statement(statement) {
-        Some(found) => matches!(found.kind, StatementKind::Let { .. }),
-        None => false,
+/// Begins a block whose names begin at a position. They end with it, or with what follows it.
+pub fn begin_body(emitter: &mut Emitter, block: Block, names: usize, is_inside: bool) {
+    emitter.then(&[
+        Task::Sequence(Sequence::of(block, names, is_inside)),
+        Task::EndScope(names),
+    ])
+}
+
+/// Compiles statements that run only if a register isn't 0.
+fn open_guard(emitter: &mut Emitter, running: Register, rest: Sequence) {
+    emitter.code.open_if(running);
+    let guarded = Sequence {
+        is_guarded: true,
+        has_names: false,
+        ..rest
+    };
+    let span = emitter.code.span;
+    emitter.then(&[Task::Sequence(guarded), Task::EndGuard(span)])
+}
+
+/// Notes that a statement isn't in a loop, unless that may come of another error.
+fn refuse_leaving(emitter: &mut Emitter, span: Span) {
+    if emitter.errors.is_empty() {
+        return emitter.error(span, ErrorKind::NOT_IN_LOOP);
     }
+    emitter.skip()
+}
+
+/// Takes the first statement of a sequence.
+fn take_first(tree: &Tree<'_>, sequence: &mut Sequence) -> Option<StatementAt> {
+    if sequence.now.is_empty() {
+        sequence.now = sequence.later;
+        sequence.later = EMPTY;
+    }
+    let statement = sequence.now.first_statement()?;
+    sequence.now.first = sequence.now.first.saturating_add(1);
+    if let StatementKind::Let { .. } = tree.statement(statement)?.kind {
+        sequence.has_names = true;
+    }
+    Some(statement)
 }

@@ -1,7 +1,6 @@
 //! From a program's text to a client, or to lines that tell what is wrong.
 
-use crate::compiler::Translation;
-use crate::entry::translate;
+use crate::entry::{Translation, translate};
 use crate::failure::{Failure, Wrong};
 use crate::report::Report;
 use crate::variables::VariableChange;

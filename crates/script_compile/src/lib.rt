@@ -1,18 +1,18 @@
 //! The compiler of programs: from their tree to a client, or to all of their errors.
 #![tactic(auto)]
 
-mod arguments;
 mod blocks;
 mod calls;
 mod client;
 mod compiler;
+mod constructs;
 mod entry;
 mod failure;
 mod loops;
 mod nests;
 mod perform;
 mod report;
-mod tasks;
+mod seen;
 mod variables;
 
 pub use client::{Client, Refusal, client_of};

@@ -1,13 +1,15 @@
 //! Nests: statements that are compiled so that few parts are open. What would still be too deep in
 //! one is done after it, if a register tells so.
 
-use crate::compiler::{Compiler, Mark};
+use crate::compiler::{Begun, Compiler, Mark};
 use client_code::Operation;
 use script_code::{
-    COUNT, ErrorKind, Key, Meaning, NOWHERE, Name, OtherParts, Place, Register, Root, append,
+    COUNT, Code, ErrorKind, Key, Meaning, NOWHERE, Name, Names, OtherParts, Place, Register, Root,
+    Trouble, append,
 };
-use script_places::{Sequence, Task};
+use script_places::{Emitter, Sequence, Task};
 use script_syntax::{Span, StatementAt, Tree};
+use std::alloc::Global;
 
 /// What a nest begins with.
 #[derive(Clone, Copy)]
@@ -18,7 +20,7 @@ pub enum NestKind {
 }
 
 #[derive(Clone, Copy)]
-pub struct Nest {
+struct Nest {
     kind: NestKind,
     mark: Mark,
     /// Registers for what is put off, which are 0 at the beginning of the nest.
@@ -33,7 +35,7 @@ pub struct Nest {
 
 /// Statements that are done after their nest.
 #[derive(Clone, Copy)]
-pub struct Deferred {
+struct Deferred {
     tail: Sequence,
     /// 1 if the statements are to be done.
     flag: Register,
@@ -53,7 +55,7 @@ pub struct Deferred {
 
 /// A name which is bound again, and where its place was removed.
 #[derive(Clone, Copy)]
-pub struct KeptName {
+struct KeptName {
     span: Span,
     meaning: Meaning,
     ended: Option<Span>,
@@ -63,6 +65,22 @@ pub struct KeptName {
 #[derive(Clone, Copy)]
 struct Copies {
     registers: [Register; COUNT],
+}
+
+/// The nests that are being compiled, each in the one before, and what was put off in them.
+#[derive(Drop)]
+pub struct Nests {
+    nests: Vec<Nest>,
+    deferred: Vec<Deferred>,
+    kept: Vec<KeptName>,
+}
+
+/// How many nests there are, and how much is put off. Going back to it needs no copy.
+#[derive(Clone, Copy)]
+pub struct NestsMark {
+    nests: usize,
+    deferred: usize,
+    kept: usize,
 }
 
 impl Copies {
@@ -96,127 +114,155 @@ impl Copies {
     }
 }
 
-impl Compiler {
-    /// Begins a nest here.
-    pub fn begin_nest(&mut self, kind: NestKind) {
-        if let NestKind::Deferred(at) = kind {
-            self.hide_others(at);
+impl Nest {
+    /// Takes the registers for what is put off.
+    fn reserve(&mut self, code: &mut Code) {
+        for index in 0..COUNT {
+            if index < self.wanted {
+                self.reserved[index] = code.literal_held(0);
+            }
         }
+        self.taken = 0;
+        self.copies = Copies::new();
+    }
+
+    /// Lets these registers go. The flag of statements that ran is free already.
+    fn release(&self, code: &mut Code) {
+        for index in 0..COUNT {
+            if index < self.wanted && code.usage.is_held(self.reserved[index]) {
+                code.usage.release(self.reserved[index]);
+            }
+        }
+    }
+}
+
+impl Nests {
+    pub fn new(alloc: Global) -> Nests {
+        Nests {
+            nests: Vec::new(alloc),
+            deferred: Vec::new(alloc),
+            kept: Vec::new(alloc),
+        }
+    }
+}
+
+impl Nests {
+    pub fn mark(&self) -> NestsMark {
+        NestsMark {
+            nests: self.nests.len(),
+            deferred: self.deferred.len(),
+            kept: self.kept.len(),
+        }
+    }
+
+    pub fn go_back(&mut self, mark: &NestsMark) {
+        self.nests.truncate(mark.nests);
+        self.deferred.truncate(mark.deferred);
+        self.kept.truncate(mark.kept);
+    }
+
+    /// How many times statements were put off that aren't done yet.
+    pub fn deferred_count(&self) -> usize {
+        self.deferred.len()
+    }
+
+    /// Adds a nest that begins at a mark. Going back to its beginning doesn't end it.
+    fn push(&mut self, kind: NestKind, mark: Mark, exits: usize, trouble: &mut Trouble) {
+        let mut mark = mark;
+        mark.nests.nests = mark.nests.nests.saturating_add(1);
         let nest = Nest {
             kind,
-            mark: self.mark(),
+            mark,
             reserved: [Register(0); COUNT],
             wanted: 0,
             taken: 0,
             copies: Copies::new(),
-            exits: self.exits(),
+            exits,
         };
-        append(&mut self.nests, nest, &mut self.emitter.code.trouble);
-        let mark = self.mark();
-        if let Some(nest) = self.nests.last_mut() {
-            nest.mark = mark;
+        append(&mut self.nests, nest, trouble)
+    }
+
+    /// The position where the innermost nest begins again with one more register, if there is one.
+    fn widen(&mut self) -> Option<Mark> {
+        let nest = self.nests.last_mut()?;
+        if nest.wanted >= COUNT {
+            return None;
         }
-        self.start_nest()
+        nest.wanted += 1;
+        Some(nest.mark)
     }
 
     /// Reserves the registers of the innermost nest, and compiles what it begins with.
-    fn start_nest(&mut self) {
-        let Some(nest) = self.nests.last().copied() else {
+    fn start(&mut self, emitter: &mut Emitter) {
+        let Some(nest) = self.nests.last_mut() else {
             return;
         };
-        let mut reserved = nest.reserved;
-        for index in 0..COUNT {
-            if index < nest.wanted {
-                reserved[index] = self.emitter.code.literal_held(0);
-            }
-        }
-        if let Some(nest) = self.nests.last_mut() {
-            nest.reserved = reserved;
-            nest.taken = 0;
-            nest.copies = Copies::new();
-        }
-        self.emitter.is_flat = true;
-        match nest.kind {
-            NestKind::Statement(statement) => {
-                self.emitter
-                    .then(&[Task::Perform(statement), Task::EndNest])
-            }
-            NestKind::Deferred(at) => self.emitter.then(&[Task::RunDeferred(at), Task::EndNest]),
-        }
+        nest.reserve(&mut emitter.code);
+        let first = match nest.kind {
+            NestKind::Statement(statement) => Task::Perform(statement),
+            NestKind::Deferred(at) => Task::RunDeferred(at),
+        };
+        emitter.is_flat = true;
+        emitter.then(&[first, Task::EndNest])
     }
 
     /// Does what was put off in the innermost nest.
-    pub fn end_nest(&mut self) {
-        let Some(nest) = self.nests.last().copied() else {
+    pub fn end(&self, emitter: &mut Emitter) {
+        let Some(nest) = self.nests.last() else {
             return;
         };
-        self.emitter.code.usage.tidy();
-        self.emitter.then(&[Task::DropNest]);
-        for at in (nest.mark.deferred..self.deferred.len()).rev() {
-            self.emitter.then(&[Task::BeginDeferred(at)]);
+        emitter.code.usage.tidy();
+        emitter.push_task(Task::DropNest);
+        for at in (nest.mark.nests.deferred..self.deferred.len()).rev() {
+            emitter.push_task(Task::BeginDeferred(at));
         }
     }
 
-    pub fn drop_nest(&mut self) {
+    /// Ends the innermost nest, after which what was put off in it is done.
+    pub fn pop(&mut self, code: &mut Code) {
         let Some(nest) = self.nests.pop() else {
             return;
         };
-        let reserved = nest.reserved;
-        for index in 0..COUNT {
-            // the register of statements that ran is free already
-            if index < nest.wanted && self.emitter.code.usage.is_held(reserved[index]) {
-                self.emitter.code.usage.release(reserved[index]);
-            }
-        }
-        self.deferred.truncate(nest.mark.deferred);
-        self.kept.truncate(nest.mark.kept);
+        nest.release(code);
+        self.deferred.truncate(nest.mark.nests.deferred);
+        self.kept.truncate(nest.mark.nests.kept);
         if let NestKind::Deferred(at) = nest.kind {
-            self.show_others(at, nest.mark.emitter.code.ended);
+            self.show_others(code, at, nest.mark.ended());
         }
     }
 
     /// Names don't count as ended in statements that were put off in the innermost nest, if they
     /// ended where these statements don't run.
-    fn hide_others(&mut self, at: usize) {
-        let (Some(nest), Some(deferred)) = (self.nests.last(), self.deferred.get(at).copied())
-        else {
+    fn hide_others(&self, code: &mut Code, at: usize) {
+        let (Some(nest), Some(deferred)) = (self.nests.last(), self.deferred.get(at)) else {
             return;
         };
-        let (first, begun) = (nest.mark.deferred, nest.mark.emitter.code.ended);
+        let first = nest.mark.nests.deferred;
         // the statements that were put off first come right after the nest's own code
         let end = match self.deferred.get(first) {
             Some(earliest) if first < at => earliest.first_ended,
-            _ => self.emitter.code.ended.len(),
+            _ => code.ended.len(),
         };
-        self.emitter
-            .code
-            .hide_ended(begun, end, deferred.at, &deferred.others);
+        code.hide_ended(nest.mark.ended(), end, deferred.at, &deferred.others);
         for earlier in first..at {
-            if self.is_excluded(earlier, at) {
-                self.hide_ended_in(earlier);
+            if let Some(earlier) = self.deferred.get(earlier) {
+                if deferred.others.have(earlier.at) {
+                    code.show_ended(earlier.first_ended, earlier.end_ended, false);
+                }
             }
-        }
-    }
-
-    /// Names don't count as ended if they ended in statements that were put off.
-    fn hide_ended_in(&mut self, at: usize) {
-        if let Some(deferred) = self.deferred.get(at).copied() {
-            let (first, end) = (deferred.first_ended, deferred.end_ended);
-            self.emitter.code.show_ended(first, end, false);
         }
     }
 
     /// After statements that were put off in the innermost nest: all names count as ended again
     /// that ended in the nest, with those from `first` on, which ended in these statements.
-    fn show_others(&mut self, at: usize, first: usize) {
-        let end = self.emitter.code.ended.len();
+    fn show_others(&mut self, code: &mut Code, at: usize, first: usize) {
+        let end = code.ended.len();
         if let Some(deferred) = self.deferred.get_mut(at) {
             deferred.first_ended = first;
             deferred.end_ended = end;
         }
         if let Some(nest) = self.nests.last() {
-            let begun = nest.mark.emitter.code.ended;
-            self.emitter.code.show_ended(begun, end, true);
+            code.show_ended(nest.mark.ended(), end, true);
         }
     }
 
@@ -228,29 +274,38 @@ impl Compiler {
         }
     }
 
-    /// Runs statements that were put off, if their register is set.
-    pub fn run_deferred(&mut self, at: usize) {
-        let Some(deferred) = self.deferred.get(at).copied() else {
+    /// How many statements of a construct left before its first nest. The construct is the last of
+    /// `constructs`.
+    fn exits_before(&self, constructs: usize) -> usize {
+        for nest in self.nests.as_slice() {
+            if nest.mark.constructs == constructs {
+                return nest.exits;
+            }
+        }
+        0
+    }
+
+    /// Runs statements that were put off, if their register is set, and if the construct continues,
+    /// if a register tells that.
+    fn run_deferred(&self, emitter: &mut Emitter, at: usize, running: Option<Register>) {
+        let Some(deferred) = self.deferred.get(at) else {
             return;
         };
-        let test = self.emitter.code.take();
-        self.emitter.code.copy(test, deferred.flag);
-        self.guard_deferred(test);
-        self.emitter.code.open_if(test);
-        self.emitter.code.usage.free(test);
-        self.emitter.code.usage.release(deferred.flag);
-        let (names, base) = (self.emitter.names.len(), self.emitter.names.base);
+        open_deferred(&mut emitter.code, deferred.flag, running);
+        let (names, base) = (emitter.names.len(), emitter.names.base);
         for at in deferred.first..deferred.end {
-            if let Some(kept) = self.kept.get(at).copied() {
-                self.bind_kept(&kept);
+            if let Some(kept) = self.kept.get(at) {
+                bind_kept(emitter, kept);
             }
         }
         if let Some(hidden) = deferred.hidden {
-            self.emitter.names.base = names.saturating_add(hidden);
+            emitter.names.base = names.saturating_add(hidden);
         }
-        let mut tail = deferred.tail;
-        tail.is_guarded = false;
-        self.emitter.then(&[
+        let tail = Sequence {
+            is_guarded: false,
+            ..deferred.tail
+        };
+        emitter.then(&[
             Task::Sequence(tail),
             Task::EndDeferred(names),
             Task::SetBase(base),
@@ -259,17 +314,16 @@ impl Compiler {
         ])
     }
 
-    /// Ends statements that were put off, whose names begin at a position. What they removed is
-    /// gone for those that are done later.
-    pub fn end_deferred(&mut self, names: usize) {
-        for position in names..self.emitter.names.len() {
-            if let Some(name) = self.emitter.names.get(position) {
-                if let Some(removed) = self.emitter.code.where_ended(name.id) {
+    /// After statements that were put off, whose names begin at a position: what they removed is gone
+    /// for those that are done later.
+    fn end_names(&mut self, names: &Names, code: &Code, first: usize) {
+        for position in first..names.len() {
+            if let Some(name) = names.get(position) {
+                if let Some(removed) = code.where_ended(name.id) {
                     self.end_kept(name.span, removed);
                 }
             }
         }
-        self.end_scope(names)
     }
 
     /// Ends a name for the statements that may be done after the innermost nest.
@@ -285,7 +339,7 @@ impl Compiler {
             else {
                 return;
             };
-            for later in at.saturating_add(1)..mark.deferred {
+            for later in at.saturating_add(1)..mark.nests.deferred {
                 if !self.is_excluded(at, later) {
                     self.end_kept_in(later, name, removed);
                 }
@@ -307,118 +361,41 @@ impl Compiler {
         }
     }
 
-    fn bind_kept(&mut self, kept: &KeptName) {
-        let at = self.emitter.names.len();
-        self.emitter.bind(kept.span, kept.meaning);
-        if let (Some(ended), Some(name)) = (kept.ended, self.emitter.names.get(at)) {
-            self.emitter.code.end_name(name.id, ended);
-        }
-    }
-
-    /// What was put off doesn't run if a statement of the nest, or of one around it in the same
-    /// construct, left.
-    fn guard_deferred(&mut self, test: Register) {
-        if self.exits() <= self.exits_before_nests() {
-            return;
-        }
-        match self.running() {
-            Some(running) => self
-                .emitter
-                .code
-                .compute(Operation::Mul, test, test, running),
-            None => {
-                if let Some(construct) = self.constructs.last_mut() {
-                    construct.wants_running = true;
-                }
-            }
-        }
-    }
-
-    /// How many statements of the innermost construct left before its first nest.
-    fn exits_before_nests(&self) -> usize {
-        for nest in self.nests.as_slice() {
-            if nest.mark.constructs == self.constructs.len() {
-                return nest.exits;
-            }
-        }
-        0
-    }
-
-    /// Puts off the innermost statement that is less deep after its nest, and what follows it.
-    /// Returns false if there is nothing to put off.
-    pub fn defer_statement(&mut self, tree: &Tree<'_>) -> bool {
-        let Some(mark) = self.deferrable() else {
-            return false;
-        };
-        self.go_back(&mark);
-        let Some(Task::AfterStatement(rest, _, _)) = self.emitter.pop_task() else {
-            return false;
-        };
-        let mut tail = rest;
-        tail.now.first = rest.now.first.saturating_sub(1);
-        self.defer(tree, tail);
-        true
-    }
-
-    /// The position where the innermost statement begins that can be put off.
-    fn deferrable(&self) -> Option<Mark> {
-        for at in (0..self.statement_count()).rev() {
-            let mark = self.statement_mark(at)?;
-            let nest = self.nests.get(mark.nests.checked_sub(1)?)?;
-            if mark.constructs == nest.mark.constructs
-                && mark.open_parts() > nest.mark.open_parts().saturating_add(1)
-            {
-                return Some(mark);
-            }
-        }
-        None
-    }
-
-    /// Puts statements off to the end of the innermost nest.
-    pub fn defer(&mut self, tree: &Tree<'_>, tail: Sequence) {
+    /// Puts statements off to the end of the innermost nest. Returns false if that needs one more
+    /// register.
+    fn defer(&mut self, emitter: &mut Emitter, tree: &Tree<'_>, tail: Sequence) -> bool {
         let Some(nest) = self.nests.last().copied() else {
-            return;
+            return true;
         };
-        self.rest = None;
         let Some(flag) = self.take_reserved() else {
-            return self.restart_nest(nest);
+            return false;
         };
-        let at = self.emitter.code.instructions.len();
-        self.emitter.code.number(flag, 1);
+        let outer = nest.mark.emitter.names;
+        let at = emitter.code.instructions.len();
+        emitter.code.number(flag, 1);
         let start = tail_start(tree, &tail);
-        let used = self.used_registers(tree, nest.mark.emitter.names, start);
-        let Some(copies) = self.copy_registers(&nest, &used) else {
-            return self.restart_nest(nest);
+        let used = used_registers(emitter, tree, outer, start);
+        let Some(copies) = self.copy_registers(&mut emitter.code, &nest, &used) else {
+            return false;
         };
         let first = self.kept.len();
-        for at in nest.mark.emitter.names..self.emitter.names.len() {
-            self.keep_name(tree, at, start, &copies);
+        for at in outer..emitter.names.len() {
+            let kept = kept_name(emitter, tree, at, start, &copies);
+            append(&mut self.kept, kept, &mut emitter.code.trouble);
         }
-        let end = self.kept.len();
         let deferred = Deferred {
             tail,
             flag,
             first,
-            end,
-            hidden: self.emitter.names.base.checked_sub(nest.mark.emitter.names),
+            end: self.kept.len(),
+            hidden: emitter.names.base.checked_sub(outer),
             at,
-            others: self.emitter.code.other_parts(),
+            others: emitter.code.other_parts(),
             first_ended: 0,
             end_ended: 0,
         };
-        append(&mut self.deferred, deferred, &mut self.emitter.code.trouble);
-    }
-
-    /// Begins the nest again, with one more register.
-    fn restart_nest(&mut self, nest: Nest) {
-        if nest.wanted >= COUNT {
-            return self.emitter.error_here(ErrorKind::OUT_OF_REGISTERS);
-        }
-        self.go_back(&nest.mark);
-        if let Some(nest) = self.nests.last_mut() {
-            nest.wanted = nest.wanted.saturating_add(1);
-        }
-        self.start_nest()
+        append(&mut self.deferred, deferred, &mut emitter.code.trouble);
+        true
     }
 
     /// The next register of the innermost nest.
@@ -432,60 +409,13 @@ impl Compiler {
         Some(nest.reserved[taken])
     }
 
-    /// The registers that names need, from one of them on, if they are in the text from a position
-    /// on.
-    fn used_registers(&mut self, tree: &Tree<'_>, first: usize, start: usize) -> [bool; COUNT] {
-        let mut used = [false; COUNT];
-        for at in first..self.emitter.names.len() {
-            let Some(name) = self.name_after(tree, at, start) else {
-                continue;
-            };
-            match name.meaning {
-                Meaning::Number { register, .. } => add(&mut used, register),
-                Meaning::Place { place, .. } => self.add_keys(&mut used, &place, first),
-                Meaning::Owner { .. } => {
-                    self.emitter.error_here(ErrorKind::TOO_DEEP);
-                    return [false; COUNT]
-                },
-                Meaning::Hidden(_) | Meaning::Unknown => {}
-            }
-        }
-        used
-    }
-
-    /// Adds the registers of a place's keys.
-    fn add_keys(&mut self, used: &mut [bool; COUNT], place: &Place, first: usize) {
-        for at in place.first..place.end {
-            if let Some(way) = self.emitter.ways.get(at).copied() {
-                if let Some(Key::Register(register)) = way.kind.key() {
-                    add(used, register);
-                }
-            }
-        }
-        match place.root {
-            Root::Element(_, Key::Register(register)) => add(used, register),
-            Root::Owner(name) | Root::Number(name) if name >= first => {
-                self.emitter.error_here(ErrorKind::TOO_DEEP)
-            }
-            _ => {}
-        }
-    }
-
-    /// The name at a position, if it is in the text from this place on.
-    fn name_after(&self, tree: &Tree<'_>, at: usize, start: usize) -> Option<Name> {
-        let name = self.emitter.names.get(at)?;
-        if matches!(name.meaning, Meaning::Hidden(_)) {
-            return None;
-        }
-        if has_word(tree.text(), start, tree.word(name.span)) {
-            Some(name)
-        } else {
-            None
-        }
-    }
-
     /// Copies registers to the nest's own. `None` if these are too few.
-    fn copy_registers(&mut self, nest: &Nest, used: &[bool; COUNT]) -> Option<Copies> {
+    fn copy_registers(
+        &mut self,
+        code: &mut Code,
+        nest: &Nest,
+        used: &[bool; COUNT],
+    ) -> Option<Copies> {
         let mut copies = nest.copies;
         for index in 0..COUNT {
             let register = Register(index as u8);
@@ -493,12 +423,9 @@ impl Compiler {
                 continue;
             }
             if copies.get(register) == register {
-                let Some(copy) = self.take_reserved() else {
-                    return None;
-                };
-                copies.set(register, copy);
+                copies.set(register, self.take_reserved()?);
             }
-            self.emitter.code.copy(copies.get(register), register);
+            code.copy(copies.get(register), register);
         }
         if let Some(nest) = self.nests.last_mut() {
             nest.copies = copies;
@@ -519,66 +446,224 @@ impl Compiler {
         nest.mark.is_held(register) && !is_flag
     }
 
-    /// Keeps the name at a position for statements that begin at this place in the text. A name
-    /// which they don't have only keeps its position.
-    fn keep_name(&mut self, tree: &Tree<'_>, at: usize, start: usize, copies: &Copies) {
-        let kept = match self.name_after(tree, at, start) {
-            Some(name) => KeptName {
-                span: name.span,
-                meaning: self.kept_meaning(name, copies),
-                ended: self.emitter.code.where_ended(name.id),
-            },
-            None => KeptName {
-                span: NOWHERE,
-                meaning: Meaning::Unknown,
-                ended: None,
-            },
-        };
-        append(&mut self.kept, kept, &mut self.emitter.code.trouble)
-    }
-
-    /// What a name means after the nest.
-    fn kept_meaning(&mut self, name: Name, copies: &Copies) -> Meaning {
-        match name.meaning {
-            Meaning::Number {
-                register,
-                digits,
-                is_positive,
-                is_fixed,
-            } => Meaning::Number {
-                register: copies.get(register),
-                digits,
-                is_positive,
-                is_fixed,
-            },
-            Meaning::Place { place, .. } => Meaning::Place {
-                place: self.kept_place(&place, copies),
-                register: None,
-                stamp: 0,
-            },
-            Meaning::Owner { .. } | Meaning::Hidden(_) | Meaning::Unknown => Meaning::Unknown,
-        }
-    }
-
-    /// A place with the copies of its keys.
-    fn kept_place(&mut self, place: &Place, copies: &Copies) -> Place {
-        let mut kept = *place;
-        kept.first = self.emitter.ways.len();
-        for at in place.first..place.end {
-            if let Some(way) = self.emitter.ways.get(at).copied() {
-                let kind = match way.kind.key() {
-                    Some(key) => way.kind.with_key(copies.key(key)),
-                    None => way.kind,
-                };
-                self.emitter.add_way(&mut kept, kind, way.to);
+    /// The position where the innermost statement begins that can be put off.
+    fn deferrable(&self, statements: &[Begun]) -> Option<Mark> {
+        for at in (0..statements.len()).rev() {
+            let mark = statements[at].mark;
+            let nest = self.nests.get(mark.nests.nests.checked_sub(1)?)?;
+            if mark.constructs == nest.mark.constructs
+                && mark.open_parts() > nest.mark.open_parts().saturating_add(1)
+            {
+                return Some(mark);
             }
         }
-        kept.end = self.emitter.ways.len();
-        if let Root::Element(object, key) = place.root {
-            kept.root = Root::Element(object, copies.key(key));
-        }
-        kept
+        None
     }
+}
+
+impl Compiler {
+    /// Begins a nest here.
+    pub fn begin_nest(&mut self, kind: NestKind) {
+        if let NestKind::Deferred(at) = kind {
+            self.nests.hide_others(&mut self.emitter.code, at);
+        }
+        let mark = self.mark();
+        let exits = self.constructs.exits();
+        self.nests
+            .push(kind, mark, exits, &mut self.emitter.code.trouble);
+        self.nests.start(&mut self.emitter)
+    }
+
+    /// Begins the innermost nest again, with one more register.
+    fn restart_nest(&mut self) {
+        let Some(mark) = self.nests.widen() else {
+            return self.emitter.error_here(ErrorKind::OUT_OF_REGISTERS);
+        };
+        self.go_back(&mark);
+        self.nests.start(&mut self.emitter)
+    }
+
+    /// Runs statements that were put off. They don't run if a statement of the nest, or of one around
+    /// it in the same construct, left.
+    pub fn run_deferred(&mut self, at: usize) {
+        let exits = self.constructs.exits();
+        let running = if exits > self.nests.exits_before(self.constructs.len()) {
+            self.constructs.need_running()
+        } else {
+            None
+        };
+        self.nests.run_deferred(&mut self.emitter, at, running)
+    }
+
+    /// Ends statements that were put off, whose names begin at a position.
+    pub fn end_deferred(&mut self, names: usize) {
+        let emitter = &self.emitter;
+        self.nests.end_names(&emitter.names, &emitter.code, names);
+        self.end_scope(names)
+    }
+
+    /// Puts off the innermost statement that is less deep after its nest, and what follows it.
+    /// Returns false if there is nothing to put off.
+    pub fn defer_statement(&mut self, tree: &Tree<'_>) -> bool {
+        let Some(mark) = self.nests.deferrable(self.statements.as_slice()) else {
+            return false;
+        };
+        self.go_back(&mark);
+        let Some(Task::AfterStatement(rest, _, _)) = self.emitter.pop_task() else {
+            return false;
+        };
+        let mut tail = rest;
+        tail.now.first = rest.now.first.saturating_sub(1);
+        self.defer(tree, tail);
+        true
+    }
+
+    /// Puts statements off to the end of the innermost nest.
+    pub fn defer(&mut self, tree: &Tree<'_>, tail: Sequence) {
+        self.rest = None;
+        if !self.nests.defer(&mut self.emitter, tree, tail) {
+            self.restart_nest()
+        }
+    }
+}
+
+/// Opens the part of statements that were put off, which runs if both registers are 1.
+fn open_deferred(code: &mut Code, flag: Register, running: Option<Register>) {
+    let test = code.take();
+    code.copy(test, flag);
+    if let Some(running) = running {
+        code.compute(Operation::Mul, test, test, running);
+    }
+    code.open_if(test);
+    code.usage.free(test);
+    code.usage.release(flag);
+}
+
+fn bind_kept(emitter: &mut Emitter, kept: &KeptName) {
+    let at = emitter.names.len();
+    emitter.bind(kept.span, kept.meaning);
+    if let (Some(ended), Some(name)) = (kept.ended, emitter.names.get(at)) {
+        emitter.code.end_name(name.id, ended);
+    }
+}
+
+/// The registers that names need, from one of them on, if they are in the text from a position on.
+fn used_registers(
+    emitter: &mut Emitter,
+    tree: &Tree<'_>,
+    first: usize,
+    start: usize,
+) -> [bool; COUNT] {
+    let mut used = [false; COUNT];
+    for at in first..emitter.names.len() {
+        let Some(name) = name_after(&emitter.names, tree, at, start) else {
+            continue;
+        };
+        match name.meaning {
+            Meaning::Number { register, .. } => add(&mut used, register),
+            Meaning::Place { place, .. } => add_keys(emitter, &mut used, &place, first),
+            Meaning::Owner { .. } => {
+                emitter.error_here(ErrorKind::TOO_DEEP);
+                return [false; COUNT];
+            }
+            Meaning::Hidden(_) | Meaning::Unknown => {}
+        }
+    }
+    used
+}
+
+/// Adds the registers of a place's keys.
+fn add_keys(emitter: &mut Emitter, used: &mut [bool; COUNT], place: &Place, first: usize) {
+    for at in place.first..place.end {
+        if let Some(way) = emitter.ways.get(at) {
+            if let Some(Key::Register(register)) = way.kind.key() {
+                add(used, register);
+            }
+        }
+    }
+    match place.root {
+        Root::Element(_, Key::Register(register)) => add(used, register),
+        Root::Owner(name) | Root::Number(name) if name >= first => {
+            emitter.error_here(ErrorKind::TOO_DEEP)
+        }
+        _ => {}
+    }
+}
+
+/// The name at a position, if it is in the text from this place on.
+fn name_after(names: &Names, tree: &Tree<'_>, at: usize, start: usize) -> Option<Name> {
+    let name = names.get(at)?;
+    if name.is_visible() && has_word(tree.text(), start, tree.word(name.span)) {
+        Some(name)
+    } else {
+        None
+    }
+}
+
+/// What is kept of the name at a position for statements that begin at this place in the text. A name
+/// which they don't have only keeps its position.
+fn kept_name(
+    emitter: &mut Emitter,
+    tree: &Tree<'_>,
+    at: usize,
+    start: usize,
+    copies: &Copies,
+) -> KeptName {
+    match name_after(&emitter.names, tree, at, start) {
+        Some(name) => KeptName {
+            span: name.span,
+            meaning: kept_meaning(emitter, name, copies),
+            ended: emitter.code.where_ended(name.id),
+        },
+        None => KeptName {
+            span: NOWHERE,
+            meaning: Meaning::Unknown,
+            ended: None,
+        },
+    }
+}
+
+/// What a name means after the nest.
+fn kept_meaning(emitter: &mut Emitter, name: Name, copies: &Copies) -> Meaning {
+    match name.meaning {
+        Meaning::Number {
+            register,
+            digits,
+            is_positive,
+            is_fixed,
+        } => Meaning::Number {
+            register: copies.get(register),
+            digits,
+            is_positive,
+            is_fixed,
+        },
+        Meaning::Place { place, .. } => Meaning::Place {
+            place: kept_place(emitter, &place, copies),
+            register: None,
+            stamp: 0,
+        },
+        Meaning::Owner { .. } | Meaning::Hidden(_) | Meaning::Unknown => Meaning::Unknown,
+    }
+}
+
+/// A place with the copies of its keys.
+fn kept_place(emitter: &mut Emitter, place: &Place, copies: &Copies) -> Place {
+    let mut kept = *place;
+    kept.first = emitter.ways.len();
+    for at in place.first..place.end {
+        if let Some(way) = emitter.ways.get(at).copied() {
+            let kind = match way.kind.key() {
+                Some(key) => way.kind.with_key(copies.key(key)),
+                None => way.kind,
+            };
+            emitter.add_way(&mut kept, kind, way.to);
+        }
+    }
+    kept.end = emitter.ways.len();
+    if let Root::Element(object, key) = place.root {
+        kept.root = Root::Element(object, copies.key(key));
+    }
+    kept
 }
 
 /// Adds a register to a set of registers.

@@ -1,52 +1,90 @@
 //! Which function does which task, and which begins which statement.
 
+use crate::blocks::begin_body;
 use crate::compiler::Compiler;
-use crate::loops::{begin_loop, end_loop, next_turn};
 use crate::nests::NestKind;
-use crate::tasks;
 use script_code::ErrorKind;
-use script_places::Task;
-use script_statements::changes::begin_method;
+use script_places::{Emitter, Task, close_noting, tell_no_room};
+use script_statements::{begin, begin_method};
 use script_syntax::{ExpressionAt, ExpressionKind, StatementAt, StatementKind, Tree};
 
 pub fn perform(compiler: &mut Compiler, tree: &Tree<'_>, task: Task) {
-    if tasks::perform(&mut compiler.emitter, tree, task) {
+    let emitter = &mut compiler.emitter;
+    if perform_part(emitter, tree, task)
+        || script_values::perform(emitter, tree, task)
+        || script_statements::perform(emitter, tree, task)
+    {
         return;
     }
+    perform_statement(compiler, tree, task)
+}
+
+/// Does a task of blocks, of parts or of places. Returns false for any other task.
+fn perform_part(emitter: &mut Emitter, tree: &Tree<'_>, task: Task) -> bool {
     match task {
-        Task::Block(block) => compiler.begin_block(block),
-        Task::Body(block, names, is_inside) => compiler.begin_body(block, names, is_inside),
+        Task::Block(block) => {
+            let names = emitter.names.len();
+            begin_body(emitter, block, names, false)
+        }
+        Task::Body(block, names, is_inside) => begin_body(emitter, block, names, is_inside),
+        Task::Else => emitter.code.begin_else(),
+        Task::ElseOne(register) => {
+            emitter.code.begin_else();
+            emitter.code.number(register, 1)
+        }
+        Task::EndPart => emitter.code.end_part(),
+        Task::CloseWalk(walk, handler, code) => emitter.close_handling(&walk, handler, code),
+        Task::CloseNoting(walk, code) => close_noting(&mut emitter.code, &walk, code),
+        Task::TellNoRoom(code) => tell_no_room(&mut emitter.code, code),
+        Task::Handle(handler, code) => emitter.handle(handler, code),
+        Task::HandleIf(code, handler) => emitter.handle_if(code, handler),
+        Task::Place(at, dropped) => emitter.begin_place(tree, at, dropped),
+        Task::Resolve(at, dropped) => emitter.resolve(tree, at, dropped),
+        other => return set_state(emitter, other),
+    }
+    true
+}
+
+/// Does a task that sets a part of the state. Returns false for any other task.
+fn set_state(emitter: &mut Emitter, task: Task) -> bool {
+    match task {
+        Task::Release(register) => {
+            emitter.code.usage.release(register);
+        }
+        Task::Keep(register) => {
+            emitter.code.usage.keep(register);
+        }
+        Task::SetFlat(is_flat) => {
+            emitter.is_flat = is_flat;
+        }
+        Task::SetBase(base) => {
+            emitter.names.base = base;
+        }
+        Task::At(span) => {
+            emitter.code.span = span;
+        }
+        _ => return false,
+    }
+    true
+}
+
+/// Does a task of statements or of nests.
+fn perform_statement(compiler: &mut Compiler, tree: &Tree<'_>, task: Task) {
+    match task {
         Task::Sequence(sequence) => compiler.next_statement(tree, sequence),
         Task::AfterStatement(rest, exits, deferred) => {
             compiler.after_statement(tree, rest, exits, deferred)
         }
-        other => perform_end(compiler, tree, other),
-    }
-}
-
-/// Tasks that begin or end statements.
-fn perform_end(compiler: &mut Compiler, tree: &Tree<'_>, task: Task) {
-    match task {
         Task::EndGuard(span) => compiler.end_guard(span),
         Task::EndScope(names) => compiler.end_scope(names),
         Task::Statement(statement) => compiler.begin_statement(tree, statement),
-        Task::Perform(statement) => perform_statement(compiler, tree, statement),
-        Task::EndStatement => {
-            compiler.end_statement(tree);
-        }
+        Task::Perform(statement) => begin_statement(compiler, tree, statement),
+        Task::EndStatement => compiler.end_statement(tree),
         Task::EndChoice => {
-            compiler.end_choice();
+            let _ = compiler.choices.pop();
         }
-        other => perform_nest(compiler, tree, other),
-    }
-}
-
-fn perform_nest(compiler: &mut Compiler, tree: &Tree<'_>, task: Task) {
-    match task {
-        Task::EndNest => compiler.end_nest(),
-        Task::DropNest => {
-            compiler.drop_nest();
-        }
+        Task::EndNest => compiler.nests.end(&mut compiler.emitter),
+        Task::DropNest => compiler.nests.pop(&mut compiler.emitter.code),
         Task::BeginDeferred(at) => compiler.begin_nest(NestKind::Deferred(at)),
         Task::RunDeferred(at) => compiler.run_deferred(at),
         Task::EndDeferred(names) => compiler.end_deferred(names),
@@ -54,48 +92,24 @@ fn perform_nest(compiler: &mut Compiler, tree: &Tree<'_>, task: Task) {
     }
 }
 
-/// Tasks with loops, functions and the program.
+/// Does a task of loops, functions or the program.
 fn perform_construct(compiler: &mut Compiler, tree: &Tree<'_>, task: Task) {
     match task {
-        Task::BeginCall(at, span, arguments) => compiler.begin_call(
-            tree, at, span, arguments, true,
-        ),
+        Task::BeginCall(at, span, arguments) => {
+            compiler.begin_call(tree, at, span, arguments, true)
+        }
         Task::Call(function, at, wants_value) => compiler.call(tree, function, at, wants_value),
         Task::EndCall => compiler.end_call(),
-        Task::BeginLoop(found) => begin_loop(compiler, tree, found),
-        Task::EndLoop => end_loop(compiler, tree),
-        Task::NextTurn(found) => next_turn(compiler, tree, found),
+        Task::BeginLoop(found) => compiler.begin_loop(tree, found),
+        Task::EndLoop => compiler.end_loop(tree),
+        Task::NextTurn(found) => compiler.next_turn(tree, found),
         Task::EndMain => compiler.end_main(tree),
         Task::DoReturn(statement) => compiler.leave(tree, statement),
         _ => {}
     }
 }
 
-/// A call of a function, or of a method.
-fn begin_call_statement(
-    compiler: &mut Compiler,
-    tree: &Tree<'_>,
-    statement: StatementAt,
-    at: ExpressionAt,
-) {
-    let Some(found) = tree.statement(statement) else {
-        return;
-    };
-    let Some(expression) = tree.expression(at) else {
-        return;
-    };
-    match expression.kind {
-        ExpressionKind::Call(arguments) => {
-            if found.otherwise.is_some() {
-                return compiler.emitter.error(found.span, ErrorKind::CALL_ELSE);
-            }
-            compiler.begin_call(tree, at, expression.span, arguments, false)
-        }
-        _ => begin_method(&mut compiler.emitter, tree, at, statement, false),
-    }
-}
-
-fn perform_statement(compiler: &mut Compiler, tree: &Tree<'_>, statement: StatementAt) {
+fn begin_statement(compiler: &mut Compiler, tree: &Tree<'_>, statement: StatementAt) {
     let Some(found) = tree.statement(statement) else {
         return;
     };
@@ -104,7 +118,23 @@ fn perform_statement(compiler: &mut Compiler, tree: &Tree<'_>, statement: Statem
             compiler.leave(tree, statement)
         }
         StatementKind::Return(_) => compiler.begin_return(tree, statement),
-        StatementKind::Call(at) => begin_call_statement(compiler, tree, statement, at),
-        _ => tasks::begin(&mut compiler.emitter, tree, statement),
+        StatementKind::Call(at) => begin_call(compiler, tree, statement, at),
+        _ => begin(&mut compiler.emitter, tree, statement),
+    }
+}
+
+/// A call of a function, or of a method.
+fn begin_call(compiler: &mut Compiler, tree: &Tree<'_>, statement: StatementAt, at: ExpressionAt) {
+    let (Some(found), Some(expression)) = (tree.statement(statement), tree.expression(at)) else {
+        return;
+    };
+    match expression.kind {
+        ExpressionKind::Call(_) if found.otherwise.is_some() => {
+            compiler.emitter.error(found.span, ErrorKind::CALL_ELSE)
+        }
+        ExpressionKind::Call(arguments) => {
+            compiler.begin_call(tree, at, expression.span, arguments, false)
+        }
+        _ => begin_method(&mut compiler.emitter, tree, at, statement, false),
     }
 }

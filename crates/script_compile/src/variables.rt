@@ -1,6 +1,6 @@
 //! Which variable each register has, for people who read a trace of the client.
 
-use script_code::{Meaning, Name, Names, Register, Trouble, append};
+use script_code::{Code, Meaning, Name, Names, Register, append};
 use script_syntax::Span;
 use std::alloc::Global;
 
@@ -51,41 +51,34 @@ impl Variables {
         self.noted = mark.noted;
     }
 
-    /// Notes the names which were bound since the last time, from this instruction on.
-    pub fn note(&mut self, names: &Names, instruction: usize, trouble: &mut Trouble) {
+    /// Notes the names which were bound since the last time, from the next instruction on.
+    pub fn note(&mut self, names: &Names, code: &mut Code) {
         for at in self.noted..names.len() {
             if let Some(name) = names.get(at) {
                 if let Some(register) = variable_register(&name) {
-                    self.change(instruction, register, Some(name.span), trouble);
+                    self.change(register, Some(name.span), code);
                 }
             }
         }
         self.noted = names.len();
     }
 
-    /// Notes that a name ended before this instruction. If another name has the same register, the register has that variable
+    /// Notes that a name ended before the next instruction. If another name has the same register, the register has that variable
     /// again.
-    pub fn end(&mut self, name: &Name, others: &Names, instruction: usize, trouble: &mut Trouble) {
+    pub fn end(&mut self, name: &Name, others: &Names, code: &mut Code) {
         self.noted = self.noted.min(others.len());
         if let Some(register) = variable_register(name) {
-            let other = name_in(others, register);
-            self.change(instruction, register, other, trouble);
+            self.change(register, name_in(others, register), code);
         }
     }
 
-    fn change(
-        &mut self,
-        instruction: usize,
-        register: Register,
-        name: Option<Span>,
-        trouble: &mut Trouble,
-    ) {
+    fn change(&mut self, register: Register, name: Option<Span>, code: &mut Code) {
         let change = VariableChange {
-            instruction,
+            instruction: code.instructions.len(),
             register,
             name,
         };
-        append(&mut self.changes, change, trouble)
+        append(&mut self.changes, change, &mut code.trouble)
     }
 
     pub fn into_changes(self) -> Vec<VariableChange> {

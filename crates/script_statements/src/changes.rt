@@ -1,56 +1,16 @@
 //! Statements that change places.
 
 use crate::lookups::is_variable;
-use crate::pushes::{hold_pushed, open_push};
 use client_code::Operation;
 use script_code::{
-    About, Code, Error, ErrorKind, Known, Meaning, Names, Operand, Place, Program, Register, Root,
-    Shape, TypeAt, WayKind,
+    About, Code, Error, ErrorKind, Meaning, Names, Place, Program, Register, Root, Shape, TypeAt,
+    WayKind,
 };
-use script_places::{
-    Emitter, Handler, Removed, Task, Value, Walk, close_noting, last_step, last_way, own_handler,
-    plain_name,
-};
+use script_places::{Emitter, Handler, Removed, Task, Value, close_noting, last_way, plain_name};
 use script_syntax::{
     BinaryOperator, Container, ExpressionAt, Item, Range, SetOperator, Span, Statement,
-    StatementAt, StatementKind, StepKind, Tree, ValueKind,
+    StatementAt, StatementKind, Tree, ValueKind,
 };
-
-/// A push or a pop of a container.
-#[derive(Clone, Copy)]
-pub enum Method {
-    Push,
-    PushFront,
-    Pop,
-    PopFront,
-}
-
-static METHODS: [(&str, Method); 4] = [
-    ("push", Method::Push),
-    ("push_front", Method::PushFront),
-    ("pop", Method::Pop),
-    ("pop_front", Method::PopFront),
-];
-
-impl Method {
-    fn named(word: &[u8]) -> Option<Method> {
-        for (spelling, method) in &METHODS {
-            if spelling.as_bytes() == word {
-                return Some(*method);
-            }
-        }
-        None
-    }
-
-    fn is_push(self) -> bool {
-        matches!(self, Method::Push | Method::PushFront)
-    }
-
-    /// Whether it is at the end of the container, and not at its front.
-    pub fn is_back(self) -> bool {
-        matches!(self, Method::Push | Method::Pop)
-    }
-}
 
 pub fn begin_set(emitter: &mut Emitter, tree: &Tree<'_>, statement: StatementAt) {
     let Some(found) = tree.statement(statement) else {
@@ -150,45 +110,21 @@ fn assign(
     place: ExpressionAt,
     value: ExpressionAt,
 ) {
-    match operator {
-        Some(operator) => change(
-            emitter,
-            tree,
-            register,
-            operator,
-            operator_span,
-            place,
-            value,
-        ),
-        None => emitter.then(&[
-            Task::Evaluate(value, Some(register)),
-            Task::MoveTo(register),
-        ]),
-    }
-}
-
-/// Changes the number in a register, which is at this place, by a value.
-fn change(
-    emitter: &mut Emitter,
-    tree: &Tree<'_>,
-    register: Register,
-    operator: BinaryOperator,
-    operator_span: Span,
-    place: ExpressionAt,
-    value: ExpressionAt,
-) {
+    emitter.push_task(Task::MoveTo(register));
+    let Some(operator) = operator else {
+        return emitter.push_task(Task::Evaluate(value, Some(register)));
+    };
     if matches!(operator, BinaryOperator::Divide | BinaryOperator::Remainder) {
-        emitter.push_task(Task::MoveTo(register));
         return emitter.begin_division(tree, operator_span, operator, place, value);
     }
+    let number = Value {
+        register,
+        is_own: false,
+    };
     emitter.then(&[
-        Task::Push(Value {
-            register,
-            is_own: false,
-        }),
+        Task::Push(number),
         Task::Evaluate(value, None),
         Task::Binary(operator, Some(register)),
-        Task::MoveTo(register),
     ])
 }
 
@@ -513,190 +449,6 @@ fn emit_share(emitter: &mut Emitter, place: &Place, source: &Place, handler: Han
     emitter.close_coded(&walk, handler, code)
 }
 
-/// Works out a method's value and its place, and then the method. The item may get a name.
-pub fn begin_method(
-    emitter: &mut Emitter,
-    tree: &Tree<'_>,
-    at: ExpressionAt,
-    statement: StatementAt,
-    is_named: bool,
-) {
-    let Some((span, arguments)) = method_of(tree, at) else {
-        return emitter.error_at(tree, at, ErrorKind::NO_METHOD);
-    };
-    let Some(method) = Method::named(tree.word(span)) else {
-        return emitter.error(span, ErrorKind::NO_METHOD);
-    };
-    let value = match value_of(tree.arguments(arguments), method.is_push()) {
-        Ok(value) => value,
-        Err(kind) => return emitter.error(span, kind),
-    };
-    let task = method_task(statement, is_named, method.is_push(), value.is_some());
-    emitter.then(&[Task::Place(at, 1), task]);
-    if let Some(value) = value {
-        emitter.push_task(Task::Evaluate(value, None));
-    }
-}
-
-/// The type of a container's items, if it has the method whose name has this span.
-pub fn method_item(
-    emitter: &mut Emitter,
-    span: Span,
-    method: Method,
-    place: &Place,
-    has_value: bool,
-) -> TypeAt {
-    let Some(item) = item_for(&emitter.program, method, place.value_type) else {
-        emitter.type_error(span, ErrorKind::WRONG_METHOD, place.value_type);
-        return TypeAt::INT;
-    };
-    if has_value && item != TypeAt::INT {
-        emitter.type_error(span, ErrorKind::ITEM_IS_NO, item);
-        return TypeAt::INT;
-    }
-    item
-}
-
-/// The type of the items of a container that has a method.
-fn item_for(program: &Program, method: Method, container: TypeAt) -> Option<TypeAt> {
-    let shape = program.types.shape(container);
-    let is_list = matches!(shape, Shape::Of(Container::List, _));
-    if is_list || (method.is_back() && shape.is_sequence()) {
-        return shape.item();
-    }
-    None
-}
-
-/// A method of the last place, whose item gets no name.
-pub fn do_method(emitter: &mut Emitter, tree: &Tree<'_>, statement: StatementAt, has_value: bool) {
-    let Some(found) = tree.statement(statement) else {
-        return;
-    };
-    let StatementKind::Call(at) = found.kind else {
-        return;
-    };
-    let Some((span, method)) = method_at(tree, at) else {
-        return emitter.skip();
-    };
-    let mut place = emitter.pop_place();
-    emitter.enter_content(&mut place);
-    let item = method_item(emitter, span, method, &place, has_value);
-    emitter.check_changeable(&place);
-    if !matches!(method, Method::Push) {
-        emitter.remove(&place, Removed::Below, found.span);
-    }
-    let value = hold_pushed(emitter, has_value);
-    let handler = method_handler(emitter, &found, method);
-    walk_method(emitter, method, &place, value, item, handler)
-}
-
-/// Goes to a place, and does a method there.
-fn walk_method(
-    emitter: &mut Emitter,
-    method: Method,
-    place: &Place,
-    value: Option<Register>,
-    item: TypeAt,
-    handler: Handler,
-) {
-    let code = emitter.code.literal_held(0);
-    let walk = emitter.walk(place, method.is_push());
-    emit_method(emitter, method, &walk, place, value, item, code);
-    emitter.close_coded(&walk, handler, code)
-}
-
-/// What is done if a method fails. A pop from nothing isn't told.
-fn method_handler(emitter: &mut Emitter, statement: &Statement, method: Method) -> Handler {
-    if method.is_push() {
-        return emitter.handler(statement);
-    }
-    own_handler(statement)
-}
-
-/// Emits a push or a pop at the end of a walk. If it fails, a register is set to the code.
-fn emit_method(
-    emitter: &mut Emitter,
-    method: Method,
-    walk: &Walk,
-    place: &Place,
-    value: Option<Register>,
-    item: TypeAt,
-    code: Register,
-) {
-    let failed = emitter.code.take_held();
-    if method.is_push() {
-        push_item(emitter, method, failed, walk, place, value, item);
-    } else {
-        pop_item(&mut emitter.code, method, failed, walk);
-    }
-    emitter.code.close_noting(failed, code);
-    emitter.code.usage.release(failed);
-    if let Some(value) = value {
-        emitter.code.usage.release(value);
-    }
-}
-
-/// Opens the part of an item that is removed.
-fn pop_item(code: &mut Code, method: Method, register: Register, walk: &Walk) {
-    let operation = if method.is_back() {
-        Operation::PopBack
-    } else {
-        Operation::PopFront
-    };
-    let registers = [register.0, walk.register.0, 0];
-    code.open_change(operation, registers, register, Known::Number)
-}
-
-/// Opens the part of an item that is pushed, and sets it.
-fn push_item(
-    emitter: &mut Emitter,
-    method: Method,
-    register: Register,
-    walk: &Walk,
-    place: &Place,
-    value: Option<Register>,
-    item: TypeAt,
-) {
-    if place.value_type == TypeAt::TEXT {
-        let Some(value) = value else {
-            return emitter.error(place.span, ErrorKind::BYTE_WANTED);
-        };
-        let registers = [register.0, walk.register.0, value.0];
-        return emitter.code.open(
-            Operation::AddByte,
-            registers,
-            Operand::Plain(0),
-            register,
-            Known::Number,
-        );
-    }
-    open_push(&mut emitter.code, method.is_back(), register, walk, item);
-    if let Some(value) = value {
-        emitter.code.act(Operation::Store, register, value.0);
-    }
-}
-
-/// The task that does a method.
-fn method_task(statement: StatementAt, is_named: bool, is_push: bool, has_value: bool) -> Task {
-    if !is_named {
-        return Task::DoMethod(statement, has_value);
-    }
-    if is_push {
-        return Task::DoPush(statement, has_value);
-    }
-    Task::DoPop(statement)
-}
-
-/// The value among a method's arguments, if it has one. Only a push may have one.
-fn value_of(arguments: &[ExpressionAt], is_push: bool) -> Result<Option<ExpressionAt>, ErrorKind> {
-    match arguments {
-        [] => Ok(None),
-        [value] if is_push => Ok(Some(*value)),
-        _ if is_push => Err(ErrorKind::ONE_VALUE),
-        _ => Err(ErrorKind::NO_VALUE),
-    }
-}
-
 /// The error of setting a value with this shape, which isn't a number.
 fn unset_kind(shape: Shape) -> ErrorKind {
     match shape {
@@ -756,20 +508,4 @@ fn item_span(tree: &Tree<'_>, statement: &Statement) -> Span {
         Some(item) => item.value.span,
         None => statement.span,
     }
-}
-
-/// The name and the arguments of the method at the end of a place.
-fn method_of(tree: &Tree<'_>, at: ExpressionAt) -> Option<(Span, Range)> {
-    let step = last_step(tree, at)?;
-    match step.kind {
-        StepKind::Method(arguments) => Some((step.span, arguments)),
-        _ => None,
-    }
-}
-
-/// The push or pop at the end of a place, and the span of its name.
-pub fn method_at(tree: &Tree<'_>, at: ExpressionAt) -> Option<(Span, Method)> {
-    let step = last_step(tree, at)?;
-    let method = Method::named(tree.word(step.span))?;
-    Some((step.span, method))
 }

@@ -1,8 +1,15 @@
 //! The code of a program's single statements.
 #![tactic(auto)]
 
-pub mod changes;
-pub mod lookups;
-pub mod loops;
-pub mod pushes;
-pub mod removals;
+mod branches;
+mod changes;
+mod lookups;
+mod loops;
+mod methods;
+mod perform;
+mod pushes;
+mod removals;
+
+pub use loops::{begin_turns, leave_loop, next_turn};
+pub use methods::begin_method;
+pub use perform::{begin, perform};

@@ -1,6 +1,6 @@
 //! `let`, `if let` and `use`.
 
-use crate::changes::begin_method;
+use crate::methods::begin_method;
 use client_code::Operation;
 use script_code::{
     About, Code, ErrorKind, Known, MOST_DIGITS, Meaning, NOWHERE, Names, Operand, Place, Program,
@@ -119,14 +119,19 @@ pub fn bind_place(emitter: &mut Emitter, name: Span, place: Place) {
 
 /// Gives a place a name, with the register at the end of a walk.
 pub fn bind_walk(emitter: &mut Emitter, name: Span, place: &Place, walk: &Walk) {
-    let stamp = emitter.code.registers.get(walk.register).stamp;
     let mut place = *place;
     place.is_frozen = place.is_frozen || walk.is_frozen;
+    bind_at(emitter, name, place, walk.register)
+}
+
+/// Gives a place a name, with the register that refers to it.
+pub fn bind_at(emitter: &mut Emitter, name: Span, place: Place, register: Register) {
+    let stamp = emitter.code.registers.get(register).stamp;
     emitter.bind(
         name,
         Meaning::Place {
             place,
-            register: Some(walk.register),
+            register: Some(register),
             stamp,
         },
     )
@@ -217,14 +222,13 @@ fn own(
             value_type,
         },
     );
-    emitter.push_task(Task::Release(register));
-    then_else(emitter, handler, register);
-    emitter.push_task(body_task(statement, names))
-}
-
-/// Ends the innermost part next. If it fails, the handler runs, with the code in a register.
-fn then_else(emitter: &mut Emitter, handler: Handler, code: Register) {
-    emitter.then(&[Task::Else, Task::Handle(handler, code), Task::EndPart])
+    emitter.then(&[
+        body_task(statement, names),
+        Task::Else,
+        Task::Handle(handler, register),
+        Task::EndPart,
+        Task::Release(register),
+    ])
 }
 
 pub fn take_owned(emitter: &mut Emitter, tree: &Tree<'_>, statement: StatementAt) {
@@ -342,7 +346,7 @@ fn look_up_number(
     close_noting(&mut emitter.code, &walk, code);
     emitter.push_task(Task::Release(register));
     let bind = Task::BindSet(name, register, digits);
-    branch_on(emitter, code, handler, bind, body_task(statement, names))
+    branch_on(emitter, code, handler, &[bind, body_task(statement, names)])
 }
 
 /// The most digits of the number at a place.
@@ -382,17 +386,12 @@ pub fn own_register(code: &mut Code, walk: &Walk) -> Register {
     code.take()
 }
 
-/// Runs the handler if a register isn't 0. Otherwise releases it, binds a name, and does the body.
-pub fn branch_on(emitter: &mut Emitter, code: Register, handler: Handler, bind: Task, body: Task) {
+/// Runs the handler if a register isn't 0. Otherwise releases it, and does these tasks.
+pub fn branch_on(emitter: &mut Emitter, code: Register, handler: Handler, success: &[Task]) {
     emitter.code.open_if(code);
-    emitter.then(&[
-        Task::Handle(handler, code),
-        Task::Else,
-        Task::Release(code),
-        bind,
-        body,
-        Task::EndPart,
-    ])
+    emitter.push_task(Task::EndPart);
+    emitter.then(success);
+    emitter.then(&[Task::Handle(handler, code), Task::Else, Task::Release(code)])
 }
 
 /// Looks a place up, and again at each use, so that no part of it stays open.
@@ -408,7 +407,7 @@ fn look_up_flat(
     let walk = emitter.walk(place, false);
     close_noting(&mut emitter.code, &walk, code);
     let bind = Task::BindPlace(name, *place);
-    branch_on(emitter, code, handler, bind, body_task(statement, names))
+    branch_on(emitter, code, handler, &[bind, body_task(statement, names)])
 }
 
 // use
@@ -483,10 +482,9 @@ pub fn hold(
         return;
     };
     let close = hold_place(emitter, &found, name, &place, code);
-    emitter.then(&[Task::EndScope(names), close]);
     let inner = emitter.names.len();
     let [first, second] = after_held(tree, statement, &found, number, code, inner);
-    emitter.then(&[first, second])
+    emitter.then(&[first, second, Task::EndScope(names), close])
 }
 
 /// Finds or makes a place, and binds it. Returns the task that ends its parts.
@@ -556,15 +554,8 @@ fn after_flat(
 /// The body of a `use` whose places were found or made, unless a register has a code.
 fn do_flat(emitter: &mut Emitter, statement: &Statement, code: Register) {
     let handler = emitter.handler(statement);
-    emitter.code.open_if(code);
-    let inner = emitter.names.len();
-    emitter.then(&[
-        Task::Handle(handler, code),
-        Task::Else,
-        Task::Release(code),
-        Task::Body(body_of(statement), inner, true),
-        Task::EndPart,
-    ])
+    let body = Task::Body(body_of(statement), emitter.names.len(), true);
+    branch_on(emitter, code, handler, &[body])
 }
 
 /// The name and the value of a `let` or an `if let`.

@@ -181,7 +181,7 @@ fn known_turns(emitter: &mut Emitter, span: Span, count: i64) -> i32 {
 }
 
 /// Sets a register to whether an index is below the end.
-pub fn test_index(code: &mut Code, go: Register, index: Register, end: End) {
+fn test_index(code: &mut Code, go: Register, index: Register, end: End) {
     match end {
         End::Register(end) => code.compute(Operation::Less, go, index, end),
         End::Literal(value) => {
@@ -239,22 +239,17 @@ fn open_items(
 fn find_first(emitter: &mut Emitter, place: &Place, key: Register, go: Register) {
     let is_map = emitter.program.types.shape(place.value_type).is_map();
     let walk = emitter.walk(place, false);
-    emitter.code.read(Operation::Len, go, walk.register);
+    let code = &mut emitter.code;
+    code.read(Operation::Len, go, walk.register);
     if is_map {
-        open_key(
-            &mut emitter.code,
-            Operation::FirstKey,
-            key,
-            walk.register,
-            0,
-        );
-        emitter.code.close();
+        open_key(code, Operation::FirstKey, key, walk.register, 0);
+        code.close();
     } else {
-        let zero = emitter.code.literal(0);
-        emitter.code.compute(Operation::Less, go, zero, go);
-        emitter.code.usage.free(zero);
+        let zero = code.literal(0);
+        code.compute(Operation::Less, go, zero, go);
+        code.usage.free(zero);
     }
-    close_walk(&mut emitter.code, &walk)
+    close_walk(code, &walk)
 }
 
 fn open_key(code: &mut Code, operation: Operation, key: Register, map: Register, after: u8) {
@@ -281,7 +276,18 @@ pub fn begin_while(emitter: &mut Emitter, tree: &Tree<'_>, statement: StatementA
     emitter.then(&[Task::Evaluate(condition, Some(go)), Task::MoveTo(go)])
 }
 
-pub fn begin_turn(emitter: &mut Emitter, tree: &Tree<'_>, found: Loop) {
+/// Begins the body of a loop. The register that tells whether the turn continues is set, if there is
+/// one.
+pub fn begin_turns(emitter: &mut Emitter, tree: &Tree<'_>, found: Loop, running: Option<Register>) {
+    emitter.code.open_loop(found.go, found.turns);
+    if let Some(running) = running {
+        emitter.code.number(running, 1);
+    }
+    emitter.push_task(Task::EndLoop);
+    begin_turn(emitter, tree, found)
+}
+
+fn begin_turn(emitter: &mut Emitter, tree: &Tree<'_>, found: Loop) {
     let Some(statement) = tree.statement(found.statement) else {
         return;
     };
@@ -321,20 +327,11 @@ fn begin_number(emitter: &mut Emitter, found: Loop, body: Block, name: Span, mea
 /// Reads a byte of the input, binds it, and does the body.
 fn begin_byte(emitter: &mut Emitter, go: Register, body: Block, name: Span, byte: Register) {
     let names = emitter.names.len();
-    open_input(emitter, name, byte);
+    let registers = [byte.0, 0, 0];
+    let operand = Operand::Plain(0);
+    emitter.code.open(Operation::GetByte, registers, operand, byte, Known::Number);
+    emitter.bind(name, Meaning::loop_number(byte, 3, false));
     emitter.then(&[Task::Body(body, names, false), Task::EndInput(go)])
-}
-
-/// Opens the part of a turn that has a byte of the input.
-fn open_input(emitter: &mut Emitter, name: Span, byte: Register) {
-    emitter.code.open(
-        Operation::GetByte,
-        [byte.0, 0, 0],
-        Operand::Plain(0),
-        byte,
-        Known::Number,
-    );
-    emitter.bind(name, Meaning::loop_number(byte, 3, false))
 }
 
 /// Binds the key and the item of a turn.
@@ -411,33 +408,61 @@ pub fn end_input(code: &mut Code, go: Register) {
     code.end_part()
 }
 
-pub fn next_item(emitter: &mut Emitter, place: &Place, key: Register, go: Register) {
+/// Continues to the next turn, unless the loop was left. The condition of a `while` isn't worked out.
+pub fn next_turn(emitter: &mut Emitter, tree: &Tree<'_>, found: Loop, has_breaks: bool) {
+    let Some(statement) = tree.statement(found.statement) else {
+        return;
+    };
+    emitter.code.usage.tidy();
+    emitter.code.span = statement.span;
+    if has_breaks {
+        emitter.code.open_if(found.go);
+        emitter.then(&[Task::Else, Task::EndPart]);
+    }
+    match found.turn {
+        Turn::Numbers { index, end, .. } => {
+            emitter.code.add(index, 1);
+            test_index(&mut emitter.code, found.go, index, end)
+        }
+        Turn::Items { place, key } => next_item(emitter, &place, key, found.go),
+        Turn::Input(_) | Turn::While(_) => {}
+    }
+}
+
+fn next_item(emitter: &mut Emitter, place: &Place, key: Register, go: Register) {
     let is_map = emitter.program.types.shape(place.value_type).is_map();
     let other = emitter.code.literal_held(0);
     if !is_map {
         emitter.code.add(key, 1);
     }
     let walk = emitter.walk(place, false);
+    let code = &mut emitter.code;
     if is_map {
-        open_key(
-            &mut emitter.code,
-            Operation::NextKey,
-            key,
-            walk.register,
-            key.0,
-        );
-        emitter.code.number(other, 1);
-        emitter.code.close();
+        open_key(code, Operation::NextKey, key, walk.register, key.0);
+        code.number(other, 1);
+        code.close();
+        close_walk(code, &walk);
+        code.copy(go, other);
     } else {
-        emitter.code.read(Operation::Len, other, walk.register);
+        code.read(Operation::Len, other, walk.register);
+        close_walk(code, &walk);
+        code.compute(Operation::Less, go, key, other);
     }
-    close_walk(&mut emitter.code, &walk);
-    if is_map {
-        emitter.code.copy(go, other);
-    } else {
-        emitter.code.compute(Operation::Less, go, key, other);
+    code.usage.release(other);
+}
+
+/// Ends a loop. Its else part runs if its turns are used up.
+pub fn leave_loop(emitter: &mut Emitter, tree: &Tree<'_>, found: Loop) {
+    let Some(statement) = tree.statement(found.statement) else {
+        return;
+    };
+    emitter.code.end_loop();
+    emitter.code.usage.tidy();
+    emitter.code.span = statement.span;
+    if let Some(part) = statement.otherwise {
+        emitter.code.open_if(found.go);
+        emitter.then(&[Task::Block(part.block), Task::Else, Task::EndPart]);
     }
-    emitter.code.usage.release(other);
 }
 
 /// The names of the key and of the item of a turn. The only name of a loop over a map is the key's.

@@ -1,82 +1,93 @@
 //! `let` and `if let` with an item that is pushed or popped.
 
-use crate::changes::{Method, method_at, method_item};
 use crate::lookups::{
-    body_code, body_of, body_task, branch_on, find_named, lookup_handler, own_register,
+    bind_at, body_code, body_of, body_task, branch_on, find_named, lookup_handler, own_register,
 };
+use crate::methods::{Method, hold_pushed, method_at, method_place, open_push};
 use client_code::Operation;
 use script_code::{
     Code, ErrorKind, Key, Known, MOST_DIGITS, Meaning, Operand, Place, Register, TypeAt, WayKind,
 };
 use script_places::{Emitter, Handler, Removed, Task, Walk, close_noting};
-use script_syntax::{Span, Statement, StatementAt, Tree, Value, ValueKind};
+use script_syntax::{Span, Statement, StatementAt, Tree, ValueKind};
 
 /// The code of an item that isn't there.
 const NO_ITEM: i64 = 6;
 
-/// An item that is pushed, and gets a name.
+/// A push or a pop whose item gets a name.
 #[derive(Clone, Copy)]
-struct Push {
+struct Naming {
+    statement: Statement,
     name: Span,
-    is_back: bool,
+    value: Span,
+    method: Method,
+    /// The name of the method.
+    called: Span,
+}
+
+/// An item that is pushed.
+#[derive(Clone, Copy)]
+struct Pushed {
     item: TypeAt,
     /// The register of its number, if it has one.
-    pushed: Option<Register>,
+    number: Option<Register>,
+}
+
+/// The push or pop of a `let` or an `if let`.
+fn find_naming(tree: &Tree<'_>, statement: StatementAt) -> Option<Naming> {
+    let (statement, name, value) = find_named(tree, statement)?;
+    let ValueKind::Expression(at) = value.kind else {
+        return None;
+    };
+    let (called, method) = method_at(tree, at)?;
+    Some(Naming {
+        statement,
+        name,
+        value: value.span,
+        method,
+        called,
+    })
 }
 
 /// `if let` with a pushed item, at the last place. Its value was worked out, if it has one.
 pub fn push_named(emitter: &mut Emitter, tree: &Tree<'_>, statement: StatementAt, has_value: bool) {
-    let Some((found, name, value)) = find_named(tree, statement) else {
+    let Some(naming) = find_naming(tree, statement) else {
         return emitter.skip();
     };
-    let Some((span, method)) = called(tree, value) else {
-        return emitter.skip();
-    };
-    let mut place = emitter.pop_place();
-    emitter.enter_content(&mut place);
-    let item = method_item(emitter, span, method, &place, has_value);
+    let (place, item) = method_place(emitter, naming.called, naming.method, has_value);
     if place.value_type == TypeAt::TEXT {
-        return emitter.error(value.span, ErrorKind::PUSHED_BYTE_NAME);
+        return emitter.error(naming.value, ErrorKind::PUSHED_BYTE_NAME);
     }
     emitter.check_changeable(&place);
-    if !method.is_back() {
-        emitter.remove(&place, Removed::Below, found.span);
+    if !naming.method.is_back() {
+        emitter.remove(&place, Removed::Below, naming.statement.span);
     }
-    let push = Push {
-        name,
-        is_back: method.is_back(),
-        item,
-        pushed: hold_pushed(emitter, has_value),
-    };
-    let handler = lookup_handler(emitter, &found);
-    let names = emitter.names.len();
-    emitter.keep_keys(tree, &mut place, body_of(&found));
-    bind_pushed(emitter, tree, &found, &push, &place, handler, names)
+    let number = hold_pushed(emitter, has_value);
+    bind_pushed(emitter, tree, &naming, place, Pushed { item, number })
 }
 
-/// Pushes an item, binds it, and does the body. The names begin at a position.
+/// Pushes an item, binds it, and does the body.
 fn bind_pushed(
     emitter: &mut Emitter,
     tree: &Tree<'_>,
-    statement: &Statement,
-    push: &Push,
-    place: &Place,
-    handler: Handler,
-    names: usize,
+    naming: &Naming,
+    place: Place,
+    pushed: Pushed,
 ) {
-    let code = body_code(emitter, tree, statement, place, handler);
+    let statement = &naming.statement;
+    let handler = lookup_handler(emitter, statement);
+    let names = emitter.names.len();
+    let mut place = place;
+    emitter.keep_keys(tree, &mut place, body_of(statement));
+    let code = body_code(emitter, tree, statement, &place, handler);
     let index = emitter.code.literal_held(0);
-    let walk = emitter.walk(place, true);
-    let register = push_at(&mut emitter.code, push, &walk, index);
-    bind_item(emitter, push.name, register, index, place, push.item);
-    let release = match push.pushed {
-        Some(pushed) => Task::Release(pushed),
+    let walk = emitter.walk(&place, true);
+    let register = push_at(&mut emitter.code, naming.method, pushed, &walk, index);
+    bind_item(emitter, naming.name, register, index, &place, pushed.item);
+    let release = match pushed.number {
+        Some(number) => Task::Release(number),
         None => Task::At(statement.span),
     };
-    emitter.then(&[
-        Task::Release(register),
-        Task::CloseWalk(walk, handler, code),
-    ]);
     emitter.then(&[
         body_task(statement, names),
         Task::Else,
@@ -84,48 +95,30 @@ fn bind_pushed(
         release,
         Task::Handle(handler, register),
         Task::EndPart,
+        Task::Release(register),
+        Task::CloseWalk(walk, handler, code),
     ])
 }
 
 /// Opens the part of an item that is pushed at the end of a walk, and returns its register. The
 /// other register is set to its index.
-fn push_at(code: &mut Code, push: &Push, walk: &Walk, index: Register) -> Register {
-    if push.is_back {
+fn push_at(
+    code: &mut Code,
+    method: Method,
+    pushed: Pushed,
+    walk: &Walk,
+    index: Register,
+) -> Register {
+    if method.is_back() {
         code.read(Operation::Len, index, walk.register);
     }
     let register = own_register(code, walk);
     code.usage.hold(register);
-    open_push(code, push.is_back, register, walk, push.item);
-    if let Some(pushed) = push.pushed {
-        code.act(Operation::Store, register, pushed.0);
+    open_push(code, method, register, walk, pushed.item);
+    if let Some(number) = pushed.number {
+        code.act(Operation::Store, register, number.0);
     }
     register
-}
-
-/// Keeps the register of the number to push, if there is one.
-pub fn hold_pushed(emitter: &mut Emitter, has_value: bool) -> Option<Register> {
-    if !has_value {
-        return None;
-    }
-    let register = emitter.pop_value().register;
-    emitter.code.usage.hold(register);
-    Some(register)
-}
-
-/// Opens the part of a pushed item.
-pub fn open_push(code: &mut Code, is_back: bool, register: Register, walk: &Walk, item: TypeAt) {
-    let operation = if is_back {
-        Operation::PushBack
-    } else {
-        Operation::PushFront
-    };
-    let known = Known::Reference {
-        class: code.class_of(walk.register),
-        value_type: item,
-        is_frozen: false,
-    };
-    let registers = [register.0, walk.register.0, 0];
-    code.open_change(operation, registers, register, known)
 }
 
 /// Binds a pushed item.
@@ -143,68 +136,49 @@ fn bind_item(
     }
     let kind = WayKind::Item(Key::Register(index));
     let place = emitter.longer_place(place, kind, item);
-    let stamp = emitter.code.registers.get(register).stamp;
-    emitter.bind(
-        name,
-        Meaning::Place {
-            place,
-            register: Some(register),
-            stamp,
-        },
-    )
+    bind_at(emitter, name, place, register)
 }
 
 /// `if let` with a popped item, at the last place.
 pub fn pop_named(emitter: &mut Emitter, tree: &Tree<'_>, statement: StatementAt) {
-    let Some((found, name, value)) = find_named(tree, statement) else {
+    let Some(naming) = find_naming(tree, statement) else {
         return emitter.skip();
     };
-    let Some((span, method)) = called(tree, value) else {
-        return emitter.skip();
-    };
-    let mut place = emitter.pop_place();
-    emitter.enter_content(&mut place);
-    let item = method_item(emitter, span, method, &place, false);
+    let (place, item) = method_place(emitter, naming.called, naming.method, false);
     if item != TypeAt::INT {
-        return emitter.type_error(value.span, ErrorKind::ITEM_GOES, item);
+        return emitter.type_error(naming.value, ErrorKind::ITEM_GOES, item);
     }
     emitter.check_changeable(&place);
-    let handler = lookup_handler(emitter, &found);
-    bind_popped(emitter, &found, name, method.is_back(), &place, handler)
+    let handler = lookup_handler(emitter, &naming.statement);
+    bind_popped(emitter, &naming, &place, handler)
 }
 
 /// Removes an item, binds its number, and does the body.
-fn bind_popped(
-    emitter: &mut Emitter,
-    statement: &Statement,
-    name: Span,
-    is_back: bool,
-    place: &Place,
-    handler: Handler,
-) {
+fn bind_popped(emitter: &mut Emitter, naming: &Naming, place: &Place, handler: Handler) {
     let register = emitter.code.literal_held(0);
     let code = emitter.code.literal_held(NO_ITEM);
-    emitter.remove(place, Removed::Below, statement.span);
+    emitter.remove(place, Removed::Below, naming.statement.span);
     let walk = emitter.walk(place, false);
+    let value_type = place.value_type;
     take_item(
         &mut emitter.code,
-        is_back,
+        naming.method,
         register,
         code,
         &walk,
-        place.value_type,
+        value_type,
     );
     close_noting(&mut emitter.code, &walk, code);
-    let names = emitter.names.len();
+    let body = body_task(&naming.statement, emitter.names.len());
     emitter.push_task(Task::Release(register));
-    let bind = Task::BindSet(name, register, MOST_DIGITS);
-    branch_on(emitter, code, handler, bind, body_task(statement, names))
+    let bind = Task::BindSet(naming.name, register, MOST_DIGITS);
+    branch_on(emitter, code, handler, &[bind, body])
 }
 
 /// Reads the first or the last item, and removes it.
 fn take_item(
     code: &mut Code,
-    is_back: bool,
+    method: Method,
     register: Register,
     failure: Register,
     walk: &Walk,
@@ -212,19 +186,15 @@ fn take_item(
 ) {
     let from = walk.register;
     let index = code.literal_held(0);
-    if is_back {
+    if method.is_back() {
         code.read(Operation::Len, index, from);
         code.add(index, -1);
     }
     load_item(code, register, from, index, value_type);
     code.number(failure, 0);
     code.close();
-    let operation = if is_back {
-        Operation::PopBack
-    } else {
-        Operation::PopFront
-    };
-    code.open_change(operation, [index.0, from.0, 0], index, Known::Number);
+    let registers = [index.0, from.0, 0];
+    code.open_change(method.operation(), registers, index, Known::Number);
     code.close();
     code.usage.release(index);
 }
@@ -245,13 +215,5 @@ fn load_item(code: &mut Code, to: Register, from: Register, index: Register, val
     code.open(Operation::At, registers, Operand::Plain(0), to, known);
     if !is_text {
         code.read(Operation::Load, to, to);
-    }
-}
-
-/// The push or pop that a value is, and the span of its name.
-fn called(tree: &Tree<'_>, value: Value) -> Option<(Span, Method)> {
-    match value.kind {
-        ValueKind::Expression(at) => method_at(tree, at),
-        _ => None,
     }
 }

@@ -1,12 +1,13 @@
 //! Declarations: constants, structs, objects, functions and the `fail` part.
 
 use script_code::{
-    About, Code, Error, ErrorKind, Function, MOST_DEPTH, Member, NamedValue, Object, ObjectKind,
-    Problem, Program, Shape, StructAt, StructType, Trouble, TypeAt, append,
+    About, Code, Error, ErrorKind, Function, Member, NamedValue, Object, ObjectKind, Problem,
+    Program, Shape, StructAt, StructType, TypeAt, append,
 };
 use script_places::{Emitter, constant_kind, near_struct};
 use script_syntax::{
-    Block, Declaration, DeclarationKind, ExpressionAt, Range, Span, StatementKind, Tree, Type,
+    Block, Declaration, DeclarationKind, ExpressionAt, Range, Span, Statement, StatementKind, Tree,
+    Type,
 };
 
 /// The most bytes of an object's name.
@@ -44,58 +45,69 @@ fn check_nesting(emitter: &mut Emitter, tree: &Tree<'_>) {
     let mut waiting = Vec::new(emitter.alloc);
     add_outermost(&mut emitter.code, tree, &mut waiting);
     for _ in 0..MOST_BLOCKS {
-        let Some(nested) = waiting.pop() else {
+        let Some(visited) = waiting.pop() else {
             return;
         };
-        if nested.depth > MOST_NESTED {
-            return report_nested(emitter, tree, nested.block);
+        let block = visited.block;
+        if visited.depth > MOST_NESTED {
+            return report_nested(emitter, tree, block);
         }
-        add_nested(
-            &mut emitter.code,
-            tree,
-            &mut waiting,
-            nested.block.statements,
-            nested.depth,
-        );
-        add_nested(
-            &mut emitter.code,
-            tree,
-            &mut waiting,
-            nested.block.following,
-            nested.depth,
-        );
+        let code = &mut emitter.code;
+        add_nested(code, tree, &mut waiting, block.statements, &visited);
+        add_nested(code, tree, &mut waiting, block.following, &visited);
     }
 }
 
 /// Adds the outermost blocks of the program.
-fn add_outermost(code: &mut Code, tree: &Tree<'_>, waiting: &mut Vec<Nested>) {
-    add_nested_block(waiting, tree.body(), 1, &mut code.trouble);
+fn add_outermost(code: &mut Code, tree: &Tree<'_>, waiting: &mut Vec<Visited>) {
+    append(waiting, Visited::outermost(tree.body()), &mut code.trouble);
     for declaration in tree.declarations() {
         match declaration.kind {
             DeclarationKind::Fail(block) | DeclarationKind::Function { body: block, .. } => {
-                add_nested_block(waiting, block, 1, &mut code.trouble)
+                append(waiting, Visited::outermost(block), &mut code.trouble)
             }
             _ => {}
         }
     }
 }
 
-/// Adds the blocks of statements at this depth.
+/// Adds the blocks of the statements of a visited block.
 fn add_nested(
     code: &mut Code,
     tree: &Tree<'_>,
-    waiting: &mut Vec<Nested>,
+    waiting: &mut Vec<Visited>,
     range: Range,
-    depth: usize,
+    visited: &Visited,
 ) {
-    let depth = depth.saturating_add(1);
     for statement in tree.statements(range) {
-        if let Some(body) = statement.body {
-            add_nested_block(waiting, body, depth, &mut code.trouble);
-        }
-        if let Some(part) = statement.otherwise {
-            add_nested_block(waiting, part.block, depth, &mut code.trouble);
-        }
+        add_blocks(code, waiting, statement, visited);
+    }
+}
+
+/// Adds the blocks of a statement of a visited block.
+fn add_blocks(
+    code: &mut Code,
+    waiting: &mut Vec<Visited>,
+    statement: &Statement,
+    visited: &Visited,
+) {
+    let depth = visited.depth.saturating_add(1);
+    if let Some(block) = statement.body {
+        let is_in_loop = visited.is_in_loop || is_loop(statement.kind);
+        let body = Visited {
+            block,
+            depth,
+            is_in_loop,
+        };
+        append(waiting, body, &mut code.trouble);
+    }
+    if let Some(part) = statement.otherwise {
+        let otherwise = Visited {
+            block: part.block,
+            depth,
+            is_in_loop: visited.is_in_loop,
+        };
+        append(waiting, otherwise, &mut code.trouble);
     }
 }
 
@@ -122,10 +134,8 @@ fn report_about(emitter: &mut Emitter, span: Span, kind: ErrorKind, about: About
 
 /// Reports a name which is declared already.
 fn check_new(emitter: &mut Emitter, tree: &Tree<'_>, span: Span) {
-    let word = tree.word(span);
-    match emitter.program.declared(tree, word) {
-        Some((kind, line)) => report_about(emitter, span, kind, About::number(line)),
-        None => {}
+    if let Some((kind, line)) = emitter.program.declared(tree, tree.word(span)) {
+        report_about(emitter, span, kind, About::number(line))
     }
 }
 
@@ -136,75 +146,51 @@ fn declare_name(emitter: &mut Emitter, tree: &Tree<'_>, declaration: Declaration
         return declare_fail(emitter, tree, name, block);
     }
     check_new(emitter, tree, name);
+    let program = &mut emitter.program;
+    let code = &mut emitter.code;
     match declaration.kind {
-        DeclarationKind::Constant(expression) => add_constant(emitter, name, expression),
-        DeclarationKind::Struct(_) => add_struct(emitter, name),
+        DeclarationKind::Constant(expression) => {
+            let value = NamedValue {
+                name,
+                expression,
+                value: None,
+            };
+            append(&mut program.values, value, &mut code.trouble)
+        }
+        DeclarationKind::Struct(_) => {
+            let (first, end) = (0, 0);
+            let added = StructType { name, first, end };
+            append(&mut program.types.structs, added, &mut code.trouble)
+        }
         DeclarationKind::Function {
             parameters,
             gives_number,
             body,
-        } => add_function(
-            emitter,
-            Function {
+        } => {
+            let function = Function {
                 name,
                 parameters,
                 gives_number,
                 body,
-            },
-        ),
-        kind => add_object(emitter, tree, name, object_kind(kind)),
+            };
+            append(&mut program.functions, function, &mut code.trouble)
+        }
+        kind => {
+            let object = new_object(code, tree, name, object_kind(kind));
+            append(&mut program.objects, object, &mut code.trouble)
+        }
     }
 }
 
-fn add_constant(emitter: &mut Emitter, name: Span, expression: ExpressionAt) {
-    let constant = NamedValue {
-        name,
-        expression,
-        value: None,
-    };
-    append(
-        &mut emitter.program.values,
-        constant,
-        &mut emitter.code.trouble,
-    )
-}
-
-fn add_struct(emitter: &mut Emitter, name: Span) {
-    let added = StructType {
-        name,
-        first: 0,
-        end: 0,
-    };
-    append(
-        &mut emitter.program.types.structs,
-        added,
-        &mut emitter.code.trouble,
-    )
-}
-
-fn add_function(emitter: &mut Emitter, function: Function) {
-    append(
-        &mut emitter.program.functions,
-        function,
-        &mut emitter.code.trouble,
-    )
-}
-
-fn add_object(emitter: &mut Emitter, tree: &Tree<'_>, name: Span, kind: ObjectKind) {
-    let word = tree.word(name);
-    let constant = emitter.code.constant(constant_kind(kind), word);
-    let object = Object {
+/// An object whose type isn't known yet.
+fn new_object(code: &mut Code, tree: &Tree<'_>, name: Span, kind: ObjectKind) -> Object {
+    Object {
         name,
         kind,
         value_type: TypeAt::INT,
-        constant,
+        constant: code.constant(constant_kind(kind), tree.word(name)),
         is_used: false,
-    };
-    append(
-        &mut emitter.program.objects,
-        object,
-        &mut emitter.code.trouble,
-    )
+    }
 }
 
 fn declare_fail(emitter: &mut Emitter, tree: &Tree<'_>, span: Span, block: Block) {
@@ -218,51 +204,38 @@ fn declare_fail(emitter: &mut Emitter, tree: &Tree<'_>, span: Span, block: Block
 /// Reports what would leave the statement that a `fail` part is used in.
 fn check_leaving(emitter: &mut Emitter, tree: &Tree<'_>, block: Block) {
     let mut waiting = Vec::new(emitter.alloc);
-    add(&mut waiting, block, false, &mut emitter.code.trouble);
+    append(
+        &mut waiting,
+        Visited::outermost(block),
+        &mut emitter.code.trouble,
+    );
     for _ in 0..MOST_BLOCKS {
-        let Some(inner) = waiting.pop() else {
+        let Some(visited) = waiting.pop() else {
             return;
         };
-        check_statements(
-            emitter,
-            tree,
-            &mut waiting,
-            inner.block.statements,
-            inner.is_in_loop,
-        );
-        check_statements(
-            emitter,
-            tree,
-            &mut waiting,
-            inner.block.following,
-            inner.is_in_loop,
-        );
+        let block = visited.block;
+        check_statements(emitter, tree, &mut waiting, block.statements, &visited);
+        check_statements(emitter, tree, &mut waiting, block.following, &visited);
     }
 }
 
 fn check_statements(
     emitter: &mut Emitter,
     tree: &Tree<'_>,
-    waiting: &mut Vec<Inner>,
+    waiting: &mut Vec<Visited>,
     range: Range,
-    is_in_loop: bool,
+    visited: &Visited,
 ) {
     for statement in tree.statements(range) {
         let leaves = match statement.kind {
             StatementKind::Return(_) => true,
-            StatementKind::Break | StatementKind::Continue => !is_in_loop,
+            StatementKind::Break | StatementKind::Continue => !visited.is_in_loop,
             _ => false,
         };
         if leaves {
             report_at(emitter, statement.span, ErrorKind::LEAVES_FAIL);
         }
-        if let Some(body) = statement.body {
-            let is_inside = is_in_loop || is_loop(statement.kind);
-            add(waiting, body, is_inside, &mut emitter.code.trouble);
-        }
-        if let Some(part) = statement.otherwise {
-            add(waiting, part.block, is_in_loop, &mut emitter.code.trouble);
-        }
+        add_blocks(&mut emitter.code, waiting, statement, visited);
     }
 }
 
@@ -295,10 +268,7 @@ fn find_value(emitter: &mut Emitter, tree: &Tree<'_>, at: usize, reports: bool) 
     if found.value.is_some() {
         return false;
     }
-    match emitter
-        .program
-        .fold(tree, &emitter.names, found.expression, MOST_DEPTH)
-    {
+    match emitter.fold(tree, found.expression) {
         Ok(value) => {
             if let Some(found) = emitter.program.values.get_mut(at) {
                 found.value = Some(value);
@@ -406,7 +376,7 @@ fn cut_field(emitter: &mut Emitter, member: usize) {
 /// Whether a field's value contains a struct, without an `own` or a container between.
 fn lies_in(emitter: &mut Emitter, member: usize, wanted: StructAt) -> bool {
     let mut waiting = Vec::new(emitter.alloc);
-    add_member(&mut waiting, member, &mut emitter.code.trouble);
+    append(&mut waiting, member, &mut emitter.code.trouble);
     for _ in 0..MOST_BLOCKS {
         let Some(member) = waiting.pop() else {
             return false;
@@ -435,52 +405,41 @@ fn add_members(emitter: &mut Emitter, waiting: &mut Vec<usize>, at: StructAt) {
         return;
     };
     for member in found.first..found.end {
-        add_member(waiting, member, &mut emitter.code.trouble);
+        append(waiting, member, &mut emitter.code.trouble);
     }
 }
 
 /// Finds the type and the name of an object, and the types of a function's parameters.
 fn declare_object(emitter: &mut Emitter, tree: &Tree<'_>, declaration: Declaration) {
-    match declaration.kind {
+    let (value_type, kind, segment_name) = match declaration.kind {
         DeclarationKind::Object {
             value_type,
             count,
             segment_name,
         } => {
             let kind = single_or_array(emitter, tree, declaration.span, count);
-            set_object(
-                emitter,
-                tree,
-                declaration.span,
-                value_type,
-                kind,
-                segment_name,
-            )
+            (value_type, kind, segment_name)
         }
         DeclarationKind::Family {
             value_type,
             segment_name,
-        } => set_object(
-            emitter,
-            tree,
-            declaration.span,
-            value_type,
-            ObjectKind::Family,
-            segment_name,
-        ),
-        DeclarationKind::Unique(value_type) => {
-            set_object(
-                emitter,
-                tree,
-                declaration.span,
-                value_type,
-                ObjectKind::Unique,
-                None,
-            )
+        } => (value_type, ObjectKind::Family, segment_name),
+        DeclarationKind::Unique(value_type) => (value_type, ObjectKind::Unique, None),
+        DeclarationKind::Function { parameters, .. } => {
+            return check_parameters(emitter, tree, parameters);
         }
-        DeclarationKind::Function { parameters, .. } => check_parameters(emitter, tree, parameters),
-        DeclarationKind::Constant(_) | DeclarationKind::Struct(_) | DeclarationKind::Fail(_) => {}
-    }
+        DeclarationKind::Constant(_) | DeclarationKind::Struct(_) | DeclarationKind::Fail(_) => {
+            return;
+        }
+    };
+    set_object(
+        emitter,
+        tree,
+        declaration.span,
+        value_type,
+        kind,
+        segment_name,
+    )
 }
 
 /// Finds the types of a function's parameters.
@@ -545,26 +504,23 @@ fn set_object(
     }
 }
 
-/// A block that is visited, and whether it is in a loop.
+/// A block that is visited.
 #[derive(Clone, Copy)]
-struct Inner {
+struct Visited {
     block: Block,
+    /// How many blocks it is in, with itself.
+    depth: usize,
     is_in_loop: bool,
 }
 
-/// A block that is visited, and how many blocks it is in, with itself.
-#[derive(Clone, Copy)]
-struct Nested {
-    block: Block,
-    depth: usize,
-}
-
-fn add_nested_block(waiting: &mut Vec<Nested>, block: Block, depth: usize, trouble: &mut Trouble) {
-    append(waiting, Nested { block, depth }, trouble);
-}
-
-fn add(waiting: &mut Vec<Inner>, block: Block, is_in_loop: bool, trouble: &mut Trouble) {
-    append(waiting, Inner { block, is_in_loop }, trouble);
+impl Visited {
+    fn outermost(block: Block) -> Visited {
+        Visited {
+            block,
+            depth: 1,
+            is_in_loop: false,
+        }
+    }
 }
 
 fn is_loop(kind: StatementKind) -> bool {
@@ -572,10 +528,6 @@ fn is_loop(kind: StatementKind) -> bool {
         kind,
         StatementKind::For { .. } | StatementKind::While { .. }
     )
-}
-
-fn add_member(waiting: &mut Vec<usize>, member: usize, trouble: &mut Trouble) {
-    append(waiting, member, trouble);
 }
 
 /// The kind of a declared object. The length of an array isn't known yet.

@@ -59,7 +59,7 @@ fn evaluate_parts(
             emitter.error(whole.span, ErrorKind::NUMBER_WANTED)
         }
         ExpressionKind::Unary(operator, operand) => {
-            evaluate_unary(emitter, operator, operand, into)
+            emitter.then(&[Task::Evaluate(operand, None), Task::Unary(operator, into)])
         }
         ExpressionKind::Binary(operator, left, right) => {
             evaluate_binary(emitter, tree, whole.span, operator, left, right, into)
@@ -70,15 +70,6 @@ fn evaluate_parts(
             emitter.push_task(Task::BeginCall(at, whole.span, arguments))
         }
     }
-}
-
-fn evaluate_unary(
-    emitter: &mut Emitter,
-    operator: UnaryOperator,
-    operand: ExpressionAt,
-    into: Option<Register>,
-) {
-    emitter.then(&[Task::Evaluate(operand, None), Task::Unary(operator, into)])
 }
 
 fn evaluate_place(
@@ -123,27 +114,52 @@ fn evaluate_binary(
     into: Option<Register>,
 ) {
     match operator {
-        BinaryOperator::Equal | BinaryOperator::NotEqual if has_text(emitter, tree, left, right) =>
-            { begin_comparison(emitter, tree, span, operator, left, right) }
+        BinaryOperator::Equal | BinaryOperator::NotEqual => {
+            evaluate_equality(emitter, tree, span, operator, left, right, into)
+        }
         BinaryOperator::And | BinaryOperator::Or => {
             emitter.then_fresh(left, Task::Logic(operator, right))
         }
         BinaryOperator::Divide | BinaryOperator::Remainder => {
             emitter.begin_division(tree, span, operator, left, right)
         }
-        _ => emitter.then(&[
-            Task::Evaluate(left, None),
-            Task::Evaluate(right, None),
-            Task::Binary(operator, into),
-        ]),
+        _ => evaluate_sides(emitter, operator, left, right, into),
     }
 }
 
-/// Whether a side of a comparison is a text. Two places with texts can't be compared.
-fn has_text(emitter: &Emitter, tree: &Tree<'_>, left: ExpressionAt, right: ExpressionAt) -> bool {
-    text_of(emitter, tree, left).is_some()
-        || text_of(emitter, tree, right).is_some()
-        || emitter.is_text(tree, left)
+/// Compares two numbers, or a text with bytes that are known. Two places with texts can't be
+/// compared.
+fn evaluate_equality(
+    emitter: &mut Emitter,
+    tree: &Tree<'_>,
+    span: Span,
+    operator: BinaryOperator,
+    left: ExpressionAt,
+    right: ExpressionAt,
+    into: Option<Register>,
+) {
+    match (text_of(emitter, tree, left), text_of(emitter, tree, right)) {
+        (None, Some(text)) => emitter.then_place(left, Task::Compare(left, operator, text)),
+        (Some(text), None) => emitter.then_place(right, Task::Compare(right, operator, text)),
+        (None, None) if !emitter.is_text(tree, left) => {
+            evaluate_sides(emitter, operator, left, right, into)
+        }
+        _ => emitter.error(span, ErrorKind::TWO_TEXTS),
+    }
+}
+
+fn evaluate_sides(
+    emitter: &mut Emitter,
+    operator: BinaryOperator,
+    left: ExpressionAt,
+    right: ExpressionAt,
+    into: Option<Register>,
+) {
+    emitter.then(&[
+        Task::Evaluate(left, None),
+        Task::Evaluate(right, None),
+        Task::Binary(operator, into),
+    ])
 }
 
 fn evaluate_default(emitter: &mut Emitter, place: ExpressionAt, default: ExpressionAt) {
@@ -183,18 +199,11 @@ pub fn unary(emitter: &mut Emitter, operator: UnaryOperator, into: Option<Regist
         _ => target_register(&mut emitter.code, into),
     };
     let zero = emitter.code.literal(0);
-    match operator {
-        UnaryOperator::Negative => {
-            emitter
-                .code
-                .compute(Operation::Sub, register, zero, value.register);
-        }
-        UnaryOperator::Not => {
-            emitter
-                .code
-                .compute(Operation::Equal, register, value.register, zero);
-        }
-    }
+    let (operation, left, right) = match operator {
+        UnaryOperator::Negative => (Operation::Sub, zero, value.register),
+        UnaryOperator::Not => (Operation::Equal, value.register, zero),
+    };
+    emitter.code.compute(operation, register, left, right);
     emitter.code.usage.free(zero);
     if register != value.register {
         emitter.free_value(value);
@@ -401,22 +410,6 @@ pub fn text_of(emitter: &Emitter, tree: &Tree<'_>, at: ExpressionAt) -> Option<R
         Ok(Folded::Text(bytes)) => Some(bytes),
         _ => None,
     }
-}
-
-fn begin_comparison(
-    emitter: &mut Emitter,
-    tree: &Tree<'_>,
-    span: Span,
-    operator: BinaryOperator,
-    left: ExpressionAt,
-    right: ExpressionAt,
-) {
-    let (place, text) = match (text_of(emitter, tree, left), text_of(emitter, tree, right)) {
-        (None, Some(text)) => (left, text),
-        (Some(text), None) => (right, text),
-        _ => return emitter.error(span, ErrorKind::TWO_TEXTS),
-    };
-    emitter.then_place(place, Task::Compare(place, operator, text))
 }
 
 /// Whether the text at the last place has these bytes.

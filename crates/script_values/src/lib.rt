@@ -1,9 +1,16 @@
-//! The code of a program's numbers and texts, and its declarations.
+//! The code of a program's numbers and texts, its declarations, and the arguments of its functions.
 #![tactic(auto)]
 
+mod arguments;
 mod declarations;
-pub mod expressions;
-pub mod numbers;
-pub mod output;
+mod expressions;
+mod numbers;
+mod output;
+mod perform;
+mod rest;
 
+pub use arguments::{Call, begin_call, called_function, enter_function, leave_function};
 pub use declarations::declare;
+pub use expressions::has_call;
+pub use perform::perform;
+pub use rest::guard_rest;

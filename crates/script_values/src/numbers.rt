@@ -260,17 +260,7 @@ fn write_sign(code: &mut Code, decimal: &Decimal, output: &Output) {
 fn write_minus(code: &mut Code, temporary: Register, output: &Output) {
     match output {
         Output::Printed { .. } => code.print(b"-"),
-        Output::Added(target) => {
-            let constant = code.constant(ConstantKind::Text, b"-");
-            code.open(
-                Operation::AddStr,
-                [temporary.0, target.text.0, 0],
-                Operand::Text(constant),
-                temporary,
-                Known::Number,
-            );
-            code.close_noting(temporary, target.code)
-        }
+        Output::Added(target) => add_bytes(code, b"-", temporary, target, Operation::AddStr),
     }
 }
 
@@ -393,6 +383,26 @@ pub fn add_byte(code: &mut Code, byte: Register, temporary: Register, target: &T
         Operation::AddByte,
         [temporary.0, target.text.0, byte.0],
         Operand::Plain(0),
+        temporary,
+        Known::Number,
+    );
+    code.close_noting(temporary, target.code)
+}
+
+/// Adds bytes to a text, or sets the text to them. A register is changed.
+pub fn add_bytes(
+    code: &mut Code,
+    bytes: &[u8],
+    temporary: Register,
+    target: &TextTarget,
+    operation: Operation,
+) {
+    let constant = code.constant(ConstantKind::Text, bytes);
+    let registers = [temporary.0, target.text.0, 0];
+    code.open(
+        operation,
+        registers,
+        Operand::Text(constant),
         temporary,
         Known::Number,
     );

@@ -1,11 +1,10 @@
 //! What is printed, and what is added to texts.
 
 use crate::expressions::{digits_of, is_positive, open_byte, text_of};
-use crate::numbers::{add_byte, write_digits};
-use client_code::{ConstantKind, LONGEST, Operation};
+use crate::numbers::{add_byte, add_bytes, write_digits};
+use client_code::{LONGEST, Operation};
 use script_code::{
-    Code, ConstantAt, ErrorKind, Folded, Known, Operand, Place, Register, TypeAt, WarningKind, Way,
-    append_bytes,
+    Code, ErrorKind, Folded, Place, Register, TypeAt, WarningKind, Way, append_bytes,
 };
 use script_places::{Emitter, Handler, Output, Task, TextTarget, Walk, close_noting, close_walk};
 use script_syntax::{
@@ -17,10 +16,7 @@ pub fn write_items(emitter: &mut Emitter, tree: &Tree<'_>, items: Range, output:
     let Some(item) = tree.items(items).first().copied() else {
         return end_items(emitter, output);
     };
-    let rest = Range {
-        first: items.first.saturating_add(1),
-        end: items.end,
-    };
+    let rest = after_first(items);
     let Some(at) = item_value(&item) else {
         return emitter.error(item.value.span, ErrorKind::NUMBER_WANTED);
     };
@@ -125,8 +121,13 @@ fn write_waiting(emitter: &mut Emitter, output: &Output) {
 
 fn add_waiting(emitter: &mut Emitter, target: &TextTarget) {
     for chunk in emitter.text.chunks(LONGEST) {
-        let constant = emitter.code.constant(ConstantKind::Text, chunk);
-        add_constant(&mut emitter.code, constant, target, Operation::AddStr);
+        add_bytes(
+            &mut emitter.code,
+            chunk,
+            target.temporary,
+            target,
+            Operation::AddStr,
+        );
     }
 }
 
@@ -273,10 +274,11 @@ fn open_text(
         replaces,
         max,
     };
-    if replaces {
-        replace_text(emitter, tree, &target, items);
-    }
-    let left = items_left(emitter, tree, &target, items);
+    let left = if replaces {
+        replace_text(emitter, tree, &target, items)
+    } else {
+        items
+    };
     emitter.then(&[
         Task::Items(left, Output::Added(target)),
         Task::TextEnd(walk, target),
@@ -285,38 +287,40 @@ fn open_text(
     ])
 }
 
-/// Empties a text, or sets it to its first item if that is known.
-fn replace_text(emitter: &mut Emitter, tree: &Tree<'_>, target: &TextTarget, items: Range) {
-    let text = match tree.items(items).first() {
-        Some(item) => item_text(emitter, tree, item),
-        None => None,
-    };
-    let first = match text {
-        Some(bytes) if tree.bytes(bytes).len() <= LONGEST => tree.bytes(bytes),
-        _ => {
-            emitter.code.act(Operation::Clear, target.text, 0);
-            emitter.code.end_others(target.text);
-            return;
-        }
-    };
-    let constant = emitter.code.constant(ConstantKind::Text, first);
-    add_constant(&mut emitter.code, constant, target, Operation::SetStr)
+/// Empties a text, or sets it to its first item if that is known. Returns the items that are left.
+fn replace_text(
+    emitter: &mut Emitter,
+    tree: &Tree<'_>,
+    target: &TextTarget,
+    items: Range,
+) -> Range {
+    let first = first_text(emitter, tree, items);
+    let code = &mut emitter.code;
+    if let Some(bytes) = first {
+        add_bytes(code, bytes, target.temporary, target, Operation::SetStr);
+        return after_first(items);
+    }
+    code.act(Operation::Clear, target.text, 0);
+    code.end_others(target.text);
+    items
 }
 
-/// The items that `replace_text` leaves.
-fn items_left(emitter: &Emitter, tree: &Tree<'_>, target: &TextTarget, items: Range) -> Range {
-    let Some(item) = tree.items(items).first() else {
-        return items;
-    };
-    let ValueKind::Expression(at) = item.value.kind else {
-        return items;
-    };
-    match text_of(emitter, tree, at) {
-        Some(bytes) if target.replaces && tree.bytes(bytes).len() <= LONGEST => Range {
-            first: items.first.saturating_add(1),
-            end: items.end,
-        },
-        _ => items,
+/// The bytes of the first item, if it is always the same text and a constant can have it.
+fn first_text<'t>(emitter: &Emitter, tree: &'t Tree<'_>, items: Range) -> Option<&'t [u8]> {
+    let item = tree.items(items).first()?;
+    let bytes = tree.bytes(item_text(emitter, tree, item)?);
+    if bytes.len() <= LONGEST {
+        Some(bytes)
+    } else {
+        None
+    }
+}
+
+/// These items without the first one.
+fn after_first(items: Range) -> Range {
+    Range {
+        first: items.first.saturating_add(1),
+        end: items.end,
     }
 }
 
@@ -388,18 +392,6 @@ fn item_value(item: &Item) -> Option<ExpressionAt> {
         ValueKind::Expression(at) => Some(at),
         ValueKind::New(_) | ValueKind::Take(_) => None,
     }
-}
-
-/// Adds a constant to a text, or sets the text to it.
-fn add_constant(code: &mut Code, constant: ConstantAt, target: &TextTarget, operation: Operation) {
-    code.open(
-        operation,
-        [target.temporary.0, target.text.0, 0],
-        Operand::Text(constant),
-        target.temporary,
-        Known::Number,
-    );
-    code.close_noting(target.temporary, target.code)
 }
 
 /// The byte of a decimal digit.
