@@ -1,0 +1,54 @@
+//! A segment that moves in its host's memory while a client runs.
+
+use client_vm::{Ended, Move, Through, moves_fit, run};
+use seg_manager::{Fault, Region, Segment};
+use std::alloc::Global;
+use std::test::Fail;
+use support_data::{
+    INCREMENT_FILE, Limited, SeqFit, counter, counter_saved, is_true, opened, placed, ready,
+};
+
+// A move before each step of the increment client, to two bases in turn.
+static MOVES: [Move; 6] = [
+    Move {
+        step: 1,
+        base: 4096,
+    },
+    Move { step: 2, base: 0 },
+    Move {
+        step: 3,
+        base: 4096,
+    },
+    Move { step: 4, base: 0 },
+    Move {
+        step: 5,
+        base: 4096,
+    },
+    Move { step: 6, base: 16 },
+];
+
+/// The counter's segment at the start of a host's memory.
+fn counter_segment(alloc: Global) -> Result<Segment<SeqFit, Global>, Fail> {
+    let image = counter(alloc)?;
+    let window = placed(Region::new(alloc, 8192)?, 0, image.as_slice())?;
+    Ok(opened::<SeqFit>(alloc, window)?)
+}
+
+/// Runs the increment client with the moves. Returns whether it prints its number in six steps.
+fn increments(alloc: Global, segment: &mut Segment<SeqFit, Global>) -> Result<bool, Fault> {
+    let client = ready(alloc, &INCREMENT_FILE, segment.types())?;
+    let mut out = Through::new(Limited::unlimited(alloc));
+    let report = run(segment, &client, b"", &MOVES, &mut out);
+    let is_done = report.steps == 6 && report.ended == Ended::Done;
+    Ok(is_done && out.into_inner().bytes.as_slice() == b"42\n".as_slice())
+}
+
+#[test]
+fn a_segment_moves_before_each_step(rt: HostRuntime) -> Result<(), Fail> {
+    let mut segment = counter_segment(rt.alloc())?;
+    is_true(moves_fit(&segment, &MOVES).is_none()).expect(&rt, "fit");
+    is_true(increments(rt.alloc(), &mut segment)?).expect(&rt, "run");
+    let saved = counter_saved(rt.alloc(), 42)?;
+    is_true(segment.window().slice(0, 784) == saved.as_slice()).expect(&rt, "saved");
+    Ok(())
+}
