@@ -36,10 +36,10 @@ fn runs(alloc: Global, heap: &LocalHeap) -> Result<Option<Fault>, Fail> {
     let image = image.as_slice();
     let clients = [INCREMENT_FILE.as_slice()];
     let mut out = Through::new(Limited::unlimited(alloc));
-    match run_bytes(heap, image, clients.as_slice(), b"", &SCHEDULE, &mut out) {
-        Ok(_outcome) => whole(out.into_inner().bytes.as_slice(), b"42\n"),
-        Err(refused) => Ok(Some(refused.fault)),
+    if let Err(refused) = run_bytes(heap, image, clients.as_slice(), b"", &SCHEDULE, &mut out) {
+        return Ok(Some(refused.fault));
     }
+    whole(out.into_inner().bytes.as_slice(), b"42\n")
 }
 
 fn assembles(heap: &LocalHeap) -> Result<Option<Fault>, Fail> {

@@ -8,29 +8,20 @@ use support_data::{
     INCREMENT_FILE, Limited, SeqFit, counter, counter_saved, is_true, opened, placed, ready,
 };
 
-// A move before each step of the increment client, to two bases in turn.
+// A move before each step of the increment client.
 static MOVES: [Move; 6] = [
-    Move {
-        step: 1,
-        base: 4096,
-    },
+    Move { step: 1, base: 800 },
     Move { step: 2, base: 0 },
-    Move {
-        step: 3,
-        base: 4096,
-    },
+    Move { step: 3, base: 800 },
     Move { step: 4, base: 0 },
-    Move {
-        step: 5,
-        base: 4096,
-    },
+    Move { step: 5, base: 800 },
     Move { step: 6, base: 16 },
 ];
 
 /// The counter's segment at the start of a host's memory.
 fn counter_segment(alloc: Global) -> Result<Segment<SeqFit, Global>, Fail> {
     let image = counter(alloc)?;
-    let window = placed(Region::new(alloc, 8192)?, 0, image.as_slice())?;
+    let window = placed(Region::new(alloc, 2048)?, 0, image.as_slice())?;
     Ok(opened::<SeqFit>(alloc, window)?)
 }
 
@@ -43,12 +34,22 @@ fn increments(alloc: Global, segment: &mut Segment<SeqFit, Global>) -> Result<bo
     Ok(is_done && out.into_inner().bytes.as_slice() == b"42\n".as_slice())
 }
 
+/// Whether the moves fit a segment.
+fn fits(segment: &Segment<SeqFit, Global>) -> bool {
+    moves_fit(segment, &MOVES).is_none()
+}
+
+/// Whether a segment is the counter's after the increment client.
+fn is_incremented(alloc: Global, segment: &Segment<SeqFit, Global>) -> Result<bool, Fail> {
+    let saved = counter_saved(alloc, 42)?;
+    Ok(segment.window().slice(0, 784) == saved.as_slice())
+}
+
 #[test]
 fn a_segment_moves_before_each_step(rt: HostRuntime) -> Result<(), Fail> {
     let mut segment = counter_segment(rt.alloc())?;
-    is_true(moves_fit(&segment, &MOVES).is_none()).expect(&rt, "fit");
+    is_true(fits(&segment)).expect(&rt, "moves");
     is_true(increments(rt.alloc(), &mut segment)?).expect(&rt, "run");
-    let saved = counter_saved(rt.alloc(), 42)?;
-    is_true(segment.window().slice(0, 784) == saved.as_slice()).expect(&rt, "saved");
+    is_true(is_incremented(rt.alloc(), &segment)?).expect(&rt, "segment");
     Ok(())
 }

@@ -162,10 +162,14 @@ fn run_twice(
         ..setting
     };
     let moved = outcome_of(alloc, image, clients, moving)?;
-    match outcome_in(alloc, Vec::from_slice(alloc, image)?, clients, setting) {
-        Ok(ran) if are_alike(&ran, &moved) => Ok(ran),
-        Ok(_ran) => Err(Fail::from("another outcome with moves")),
-        Err(unrun) => Err(Fail::from(unrun.refused.fault)),
+    let ran = match outcome_in(alloc, Vec::from_slice(alloc, image)?, clients, setting) {
+        Ok(ran) => ran,
+        Err(unrun) => return Err(Fail::from(unrun.refused.fault)),
+    };
+    if are_alike(&ran, &moved) {
+        Ok(ran)
+    } else {
+        Err(Fail::from("another outcome with moves"))
     }
 }
 
