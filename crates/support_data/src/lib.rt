@@ -23,10 +23,8 @@ pub use output::Limited;
 pub use random::Random;
 pub use runs::{
     BEST_FLAT, BEST_TREE, KINDS, PLAIN, Ran, SEQ_FLAT, SEQ_TREE, SegmentKind, Setting, Statistics,
-    checked, client, created, empty, outcome_in, outcome_of, ready, run_anew, run_files, run_in,
-    run_on, statistics_of, verified,
+    client, created, empty, outcome_in, outcome_of, ready, run_files, statistics_of, verified,
 };
-pub use seg_check::{check, open, save};
 pub use seg_seqfit::SeqFit;
 pub use transcript::{Statement, statements};
 pub use windows::{opened, placed, window};

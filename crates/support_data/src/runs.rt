@@ -120,16 +120,6 @@ pub const PLAIN: Setting<'static> = Setting {
     limit: usize::MAX,
 };
 
-/// Runs the clients with these texts. The saved image must be accepted.
-pub fn run_in(alloc: Global, image: &[u8], texts: &[&str], setting: Setting) -> Result<Ran, Fail> {
-    let mut files = Vec::new(alloc);
-    for text in texts {
-        files.push(client(alloc, text)?)?;
-    }
-    let clients: Vec<&[u8]> = files.iter().map(|file| file.as_slice()).collect(alloc)?;
-    run_files(alloc, image, clients.as_slice(), setting)
-}
-
 /// Runs clients. The saved image must be accepted.
 pub fn run_files(
     alloc: Global,
@@ -193,16 +183,6 @@ fn came_to(outcome: Outcome<Global>, out: Through<Limited>) -> Ran {
     }
 }
 
-/// Runs the clients with these texts on an image.
-pub fn run_on(alloc: Global, image: &[u8], texts: &[&str]) -> Result<Ran, Fail> {
-    run_in(alloc, image, texts, PLAIN)
-}
-
-/// Runs the clients with these texts on an empty segment.
-pub fn run_anew(alloc: Global, size: u32, kind: SegmentKind, texts: &[&str]) -> Result<Ran, Fail> {
-    run_on(alloc, empty(alloc, size, kind)?.as_slice(), texts)
-}
-
 /// The sizes and numbers of what an image contains.
 #[derive(Debug, Clone, Copy, PartialEq, Eq)]
 pub struct Statistics {
@@ -210,12 +190,6 @@ pub struct Statistics {
     pub largest: u32,
     pub named: u32,
     pub unique: usize,
-}
-
-/// The first fault of an image, if the checker finds one.
-pub fn checked(alloc: Global, image: &[u8]) -> Result<(), Fault> {
-    check(alloc, window(alloc, image)?.view())?;
-    Ok(())
 }
 
 /// The statistics of an image, which must be accepted.

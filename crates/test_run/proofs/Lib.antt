@@ -1,4 +1,0 @@
-pub mod FaultLaws
-pub mod PositionLaws
-pub mod OutcomeLaws
-pub mod SharedObjectLaws

@@ -1,12 +1,14 @@
-use crate::tests::plays::{Play, play_each, plays_with};
-use std::alloc::Global;
+use crate::tests::plays::{Play, play_each};
 use std::test::Fail;
 use support_data::{KINDS, SEQ_FLAT};
 
-/// Makes a map of type 1 with the smallest and the largest number as keys. Prints the first key, the next key, and the code after
-/// the last one.
-const PRINT_KEYS: &str = "
-    name m
+/// Makes a map of each kind with the smallest and the largest number as keys. Prints the first key, the next key, and the code
+/// after the last one.
+const PRINT_KEYS: &str = "type i64
+    type flat_map t0
+    type map t0
+    name flat
+    name tree
     CONST r1 -2147483648
     CONST r2 1
     MUL r3 r1 r1
@@ -32,27 +34,28 @@ const PRINT_KEYS: &str = "
       ELSE
       END
     ELSE
+    END
+    MAKE r0 - - t2 k1
+      PUTK r5 r0 r4
+      ELSE
+      END
+      PUTK r5 r0 r3
+      ELSE
+      END
+      FIRSTK r6 r0
+        OUTI r6
+        NEXTK r6 r0 r6
+          OUTI r6
+          NEXTK r6 r0 r6
+          ELSE
+            OUTI r6
+          END
+        ELSE
+        END
+      ELSE
+      END
+    ELSE
     END";
-
-/// Tests the order of keys in a map of this kind.
-fn has_keys_in_order(alloc: Global, kind: &str) -> Result<(), Fail> {
-    let client = format!(in alloc; "type i64\ntype {kind} t0{PRINT_KEYS}")?;
-    plays_with(
-        alloc,
-        &KINDS,
-        &[("print_keys", client.as_str())],
-        "$ on 1024 print_keys
-        -9223372036854775808
-        9223372036854775807
-        6",
-    )
-}
-
-#[test]
-fn keys_in_order(rt: HostRuntime) -> Result<(), Fail> {
-    has_keys_in_order(rt.alloc(), "flat_map")?;
-    has_keys_in_order(rt.alloc(), "map")
-}
 
 /// Puts four numbers into a flat map, each with itself as its key.
 const PUT_FOUR: &str = "type i64
@@ -112,7 +115,18 @@ const PUT_FIFTH: &str = "type i64
     ELSE
     END";
 
-static PLAYS: [Play; 2] = [
+static PLAYS: [Play; 3] = [
+    Play {
+        kinds: &KINDS,
+        clients: &[("print_keys", PRINT_KEYS)],
+        text: "$ on 2048 print_keys; named 2
+        -9223372036854775808
+        9223372036854775807
+        6
+        -9223372036854775808
+        9223372036854775807
+        6",
+    },
     // A flat map of 4 numbers has a buffer of 5 units, and one of 5 numbers a buffer of 9 units in the same place.
     Play {
         kinds: &[SEQ_FLAT],

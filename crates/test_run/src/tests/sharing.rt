@@ -1,19 +1,12 @@
 //! Clients that freeze, share and read objects. Outputs and heaps are worked out by hand: an empty segment of 1024 bytes has a
 //! heap of 320 bytes at 704, in which a number, a cell and a frozen number take 32 bytes each.
 
-use crate::tests::left::leaves;
 use crate::tests::plays::{Play, play_each};
-use client_vm::Ended;
-use seg_manager::{Fault, TypeTable};
-use std::alloc::Global;
 use std::test::Fail;
-use support_data::{
-    COUNT, KINDS, NOTICE, PLAIN, PUBLISH, Ran, SEQ_FLAT, SegmentKind, Setting, checked, client,
-    empty, outcome_of, run_anew, run_in, run_on, sharing, verified, write_words,
-};
+use support_data::{COUNT, KINDS, NOTICE, PUBLISH, SEQ_FLAT};
 
 /// Freezes a number into a cell, shares it with another cell, destroys the first cell, and reads the number through the second.
-const SHARE: &str = "type i64
+pub(crate) const SHARE: &str = "type i64
     type shared t0
     name a
     name b
@@ -60,115 +53,6 @@ const FREEZE: &str = "type i64
     ELSE
     END";
 
-/// The image that [`SHARE`] leaves. The cell `b` is at 800, and its object at 864.
-fn shared_image(alloc: Global) -> Result<Vec<u8>, Fail> {
-    Ok(run_anew(alloc, 1024, SEQ_FLAT, &[SHARE])?.image)
-}
-
-/// Each instruction outside the else parts is a step.
-#[test]
-fn the_steps_of_sharing_are_the_bound(rt: HostRuntime) -> Result<(), Fail> {
-    let file = client(rt.alloc(), SHARE)?;
-    let accepted = verified(file.as_slice(), &TypeTable::new())?;
-    assert!(rt; accepted.bound() == 12);
-    Ok(())
-}
-
-/// Whether an image has these little-endian words at a position.
-fn has_words(image: &[u8], at: usize, words: &[u32]) -> bool {
-    let mut rest = image.get(at..).unwrap_or(&[]);
-    for word in words {
-        match rest.strip_prefix(word.to_le_bytes().as_slice()) {
-            Some(after) => rest = after,
-            None => return false,
-        }
-    }
-    true
-}
-
-/// Whether an image has the words of each of these rows at its position.
-fn has_rows(image: &[u8], rows: &[(usize, &[u32])]) -> bool {
-    rows.iter().all(|row| has_words(image, row.0, row.1))
-}
-
-/// The cell points 64 bytes ahead. One cell shares the object there, which is the first frozen object, with the value 7.
-static SHARED: [(usize, &[u32]); 2] = [(800, &[64, 1]), (864, &[1, 0, 7, 0])];
-
-#[test]
-fn the_bytes_of_what_is_shared(rt: HostRuntime) -> Result<(), Fail> {
-    let image = shared_image(rt.alloc())?;
-    assert!(rt; has_rows(image.as_slice(), &SHARED));
-    Ok(())
-}
-
-/// The image that [`SHARE`] leaves, with another word at a position.
-fn changed(alloc: Global, at: usize, word: u32) -> Result<Vec<u8>, Fail> {
-    let mut image = shared_image(alloc)?;
-    write_words(image.as_mut_slice(), at, &[word]);
-    Ok(image)
-}
-
-/// The fault of that image, if the checker finds one.
-fn fault_of_changed(alloc: Global, at: usize, word: u32) -> Result<Option<Fault>, Fail> {
-    Ok(checked(alloc, changed(alloc, at, word)?.as_slice()).err())
-}
-
-/// A count that isn't the number of cells, and a number that isn't below the next one, are faults.
-#[test]
-fn wrong_counts_and_numbers_are_refused(rt: HostRuntime) -> Result<(), Fail> {
-    for (at, word) in [(864, 2), (868, 1)] {
-        let found = fault_of_changed(rt.alloc(), at, word)?;
-        assert!(rt; found == Some(Fault::BadValue(864)), "{at}");
-    }
-    Ok(())
-}
-
-/// If no number is left, nothing is frozen, and the object can still be dropped.
-#[test]
-fn numbers_are_used_up(rt: HostRuntime) -> Result<(), Fail> {
-    let image = changed(rt.alloc(), 28, u32::MAX)?;
-    assert!(rt; checked(rt.alloc(), image.as_slice()).is_ok());
-    let ran = run_on(rt.alloc(), image.as_slice(), &[FREEZE])?;
-    // the cell `a` is made in the same place as before
-    assert!(rt; leaves(rt.alloc(), &ran, "7\n", 176, 2)?);
-    Ok(())
-}
-
-/// Frozen objects are read-only.
-#[test]
-fn what_is_frozen_is_not_changed(rt: HostRuntime) -> Result<(), Fail> {
-    let image = shared_image(rt.alloc())?;
-    let file = client(
-        rt.alloc(),
-        "type i64
-        type shared t0
-        name b
-        FIND r0 - - t1 k0
-          CONTENT r1 r0
-            CONST r2 1
-            STORE r1 r2
-          ELSE
-          END
-        ELSE
-        END",
-    )?;
-    let found = fault_of_run(rt.alloc(), image.as_slice(), file.as_slice());
-    let rejected = Fault::Rejected {
-        instruction: 3,
-        reason: 1,
-    };
-    assert!(rt; found == Some(rejected));
-    Ok(())
-}
-
-/// Why a client doesn't run on an image.
-fn fault_of_run(alloc: Global, image: &[u8], file: &[u8]) -> Option<Fault> {
-    match outcome_of(alloc, image, &[file], PLAIN) {
-        Ok(_) => None,
-        Err(refused) => Some(refused.fault),
-    }
-}
-
 /// Freezes a struct into `h`, then another one that shares the first. At the end `h` shares the first again.
 const REPLACE: &str = "type i64
     type shared t2
@@ -199,17 +83,6 @@ const REPLACE: &str = "type i64
       END
     ELSE
     END";
-
-/// The named object is at 704 and its index at 736. The first struct, at 784, moves to the 48 bytes at 816. The second one, also
-/// at 784, moves to the 48 bytes at 864, which are free again at the end. The cell of `h` at 720 points to 832.
-static REPLACED: [(usize, &[u32]); 3] = [(28, &[2]), (720, &[112, 1]), (832, &[1, 0, 0, 0, 1, 0])];
-
-#[test]
-fn the_first_of_two_frozen_structs_is_left(rt: HostRuntime) -> Result<(), Fail> {
-    let ran = run_anew(rt.alloc(), 1024, SEQ_FLAT, &[REPLACE])?;
-    assert!(rt; has_rows(ran.image.as_slice(), &REPLACED));
-    Ok(())
-}
 
 /// Freezes a struct with a value of each kind into `h`.
 const FREEZE_EACH_KIND: &str = "type i64
@@ -397,68 +270,12 @@ const READ_EACH_KIND: &str = "type i64
     ELSE
     END";
 
-/// Whether a client that only reads changes nothing.
-fn reading_changes_nothing(alloc: Global, kind: SegmentKind) -> Result<bool, Fail> {
-    let frozen = run_anew(alloc, 4096, kind, &[FREEZE_EACH_KIND])?;
-    let read = run_on(alloc, frozen.image.as_slice(), &[READ_EACH_KIND])?;
-    Ok(read.image.as_slice() == frozen.image.as_slice())
-}
-
-#[test]
-fn readers_change_nothing(rt: HostRuntime) -> Result<(), Fail> {
-    for kind in KINDS {
-        assert!(rt; reading_changes_nothing(rt.alloc(), kind)?);
-    }
-    Ok(())
-}
-
-/// The result if an output fails after an object was frozen and shared.
-fn output_fails_after(alloc: Global, limit: usize) -> Result<Ran, Fail> {
-    let image = empty(alloc, 1024, SEQ_FLAT)?;
-    run_in(
-        alloc,
-        image.as_slice(),
-        &[SHARE],
-        Setting { limit, ..PLAIN },
-    )
-}
-
-/// The objects are as they are without a failure.
-#[test]
-fn frozen_objects_stay_where_the_output_fails(rt: HostRuntime) -> Result<(), Fail> {
-    let image = shared_image(rt.alloc())?;
-    for limit in 0..2 {
-        let ran = output_fails_after(rt.alloc(), limit)?;
-        let is_kept = ran.image.as_slice() == image.as_slice();
-        assert!(rt; ran.ended == Ended::OutputFailed && is_kept, "{limit}");
-    }
-    Ok(())
-}
-
-/// Whether two images have the same bytes in the 32 from a position on.
-fn has_same(old: &[u8], new: &[u8], at: usize) -> bool {
-    let end = at.saturating_add(32);
-    new.get(at..end).is_some() && new.get(at..end) == old.get(at..end)
-}
-
-/// A client makes its number in the lowest free block, beside a frozen number. The block of the cell that shares this and the
-/// frozen number's own block are unchanged.
-#[test]
-fn clients_run_beside_a_frozen_object(rt: HostRuntime) -> Result<(), Fail> {
-    let image = sharing(rt.alloc())?;
-    let ran = run_on(rt.alloc(), image.as_slice(), &[COUNT, COUNT])?;
-    let (old, new) = (image.as_slice(), ran.image.as_slice());
-    let is_kept = has_same(old, new, 784) && has_same(old, new, 848);
-    assert!(rt; is_kept && leaves(rt.alloc(), &ran, "1\n2\n", 208 - 32, 2)?);
-    Ok(())
-}
-
-static PLAYS: [Play; 6] = [
+static PLAYS: [Play; 7] = [
     // A frozen number is shared and read.
     Play {
         kinds: &KINDS,
         clients: &[("share", SHARE)],
-        text: "$ client kill
+        text: r"$ client kill
             type i64
             type shared t0
             name b
@@ -467,7 +284,35 @@ static PLAYS: [Play; 6] = [
         $ on 1024 share; free 208 named 1 steps 12
         7
         $ then kill; free 320 named 0 largest 320
-        1",
+        1
+        $ on 1024 share takes 1; free 208 named 1
+        7\",
+    },
+    // The cell `b` is at 800, and the frozen object at 864: its count, its number and its value. The word at 28 is the next number.
+    // If no number is left, nothing is frozen, and the object can still be dropped. In the last image the cell `h` is at 720. It
+    // shares the first struct, which was made at 784 and frozen to 832. The second one was frozen to 880, which is free again.
+    Play {
+        kinds: &[SEQ_FLAT],
+        clients: &[
+            ("share", SHARE),
+            ("count", COUNT),
+            ("freeze", FREEZE),
+            ("replace", REPLACE),
+        ],
+        text: "$ on 1024 share
+        7
+        $ has 28=1 800->864 804=1 864=1 868=0 872:7
+        $ then count count; free 176 named 2
+        1
+        2
+        $ has 28=1 800->864 804=1 864=1 868=0 872:7
+        $ on 1024 share
+        7
+        $ change 28=0xffffffff
+        $ then freeze; free 176 named 2
+        7
+        $ on 1024 replace
+        $ has 28=2 720->832 724=1 832=1 836=0 840:0 848->null 852=0",
     },
     // A cell shares the object of its content.
     Play {

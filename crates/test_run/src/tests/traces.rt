@@ -1,6 +1,7 @@
 //! Traces, with lines worked out by hand from the instruction table.
 
-use client_trace::{Untraced, trace};
+use crate::tests::sharing::SHARE;
+use client_trace::trace;
 use client_vm::Through;
 use seg_manager::IndexKind;
 use std::alloc::Global;
@@ -141,45 +142,42 @@ ELSE
 END
 ";
 
-/// Three steps come before five iterations of five steps. The path to the last own has ten parts.
-const CHAIN_END: &str = r#"
+/// Three steps come before five iterations of five steps. The path to the last own has ten parts, of which eight are shown.
+const CHAIN_TRACE: &str = r#"     1    0  FINDOR r0 - t1 k0  ; r0 -> chain
+     2    1  CONST r1 1         ; r0 -> chain, r1 = 1
+     3    2  WHILE r1 5         ; r0 -> chain, r1 = 1
+     4   11  END                ; r0 -> chain, r1 = 1
+     5    3  NEW r2 t2          ; r0 -> chain, r1 = 1, r2 owns t2
+     6    4  PUT r0 r2          ; r0 -> chain, r1 = 1
+     7    5  CONTENT r3 r0      ; r0 -> chain, r1 = 1, r3 -> chain.content
+     8    6  FIELD r0 r3 1      ; r0 -> chain.content.field 1, r1 = 1
+     9   11  END                ; r0 -> chain.content.field 1, r1 = 1
+    10    3  NEW r2 t2          ; r0 -> chain.content.field 1, r1 = 1, r2 owns t2
+    11    4  PUT r0 r2          ; r0 -> chain.content.field 1, r1 = 1
+    12    5  CONTENT r3 r0      ; r0 -> chain.content.field 1, r1 = 1, r3 -> chain.content.field 1.content
+    13    6  FIELD r0 r3 1      ; r0 -> chain.content.field 1.content.field 1, r1 = 1
+    14   11  END                ; r0 -> chain.content.field 1.content.field 1, r1 = 1
+    15    3  NEW r2 t2          ; r0 -> chain.content.field 1.content.field 1, r1 = 1, r2 owns t2
+    16    4  PUT r0 r2          ; r0 -> chain.content.field 1.content.field 1, r1 = 1
+    17    5  CONTENT r3 r0      ; r0 -> chain.content.field 1.content.field 1, r1 = 1, r3 -> chain.content.field 1.content.field 1.content
+    18    6  FIELD r0 r3 1      ; r0 -> chain.content.field 1.content.field 1.content.field 1, r1 = 1
+    19   11  END                ; r0 -> chain.content.field 1.content.field 1.content.field 1, r1 = 1
+    20    3  NEW r2 t2          ; r0 -> chain.content.field 1.content.field 1.content.field 1, r1 = 1, r2 owns t2
+    21    4  PUT r0 r2          ; r0 -> chain.content.field 1.content.field 1.content.field 1, r1 = 1
+    22    5  CONTENT r3 r0      ; r0 -> chain.content.field 1.content.field 1.content.field 1, r1 = 1, r3 -> chain.content.field 1.content.field 1.content.field 1.content
+    23    6  FIELD r0 r3 1      ; r0 -> chain.content.field 1.content.field 1.content.field 1.content.field 1, r1 = 1
+    24   11  END                ; r0 -> chain.content.field 1.content.field 1.content.field 1.content.field 1, r1 = 1
+    25    3  NEW r2 t2          ; r0 -> chain.content.field 1.content.field 1.content.field 1.content.field 1, r1 = 1, r2 owns t2
+    26    4  PUT r0 r2          ; r0 -> chain.content.field 1.content.field 1.content.field 1.content.field 1, r1 = 1
+    27    5  CONTENT r3 r0      ; r0 -> chain.content.field 1.content.field 1.content.field 1.content.field 1, r1 = 1, r3 -> chain.(1 parts).field 1.content.field 1.content.field 1.content.field 1.content
+    28    6  FIELD r0 r3 1      ; r0 -> chain.(2 parts).content.field 1.content.field 1.content.field 1.content.field 1, r1 = 1
      -   11  END                ; r0 -> chain.(2 parts).content.field 1.content.field 1.content.field 1.content.field 1, r1 = 1
     29   12  OUTC k1
 out "012345678901234567890123456789012345678901234567890123456789".. of 61
 "#;
 
-/// A number is frozen, shared, and read through the second cell.
-const SHARES: &str = "type i64
-type shared t0
-name a
-name b
-CONST r4 7
-MAKE r0 - - t1 k0
-  MAKE r1 - - t1 k1
-    NEW r2 t0
-      REF r3 r2
-      STORE r3 r4
-      FREEZE r5 r0 r2
-        SHARE r1 r0
-        KILL r6 - t1 k0
-        CONTENT r7 r1
-          LOAD r8 r7
-          OUTI r8
-        ELSE
-        END
-      ELSE
-        DROP r2
-      END
-    ELSE
-    END
-  ELSE
-  END
-ELSE
-END
-";
-
 /// After `FREEZE` the register no longer owns the object, and the object is read-only.
-const SHARES_TRACE: &str = r#"     1    0  CONST r4 7         ; r4 = 7
+const SHARE_TRACE: &str = r#"     1    0  CONST r4 7         ; r4 = 7
      2    1  MAKE r0 - - t1 k0  ; r0 -> a, r4 = 7
      3    2  MAKE r1 - - t1 k1  ; r0 -> a, r1 -> b, r4 = 7
      4    3  NEW r2 t0          ; r0 -> a, r1 -> b, r2 owns t0, r4 = 7
@@ -194,53 +192,35 @@ const SHARES_TRACE: &str = r#"     1    0  CONST r4 7         ; r4 = 7
 out "7\n"
 "#;
 
-/// The trace of a client on an empty segment, with an output that takes this many bytes, and how the trace ended.
-fn traced(
-    alloc: Global,
-    text: &str,
-    limit: usize,
-) -> Result<(Vec<u8>, Result<(), Untraced>), Fail> {
-    let file = client(alloc, text)?;
-    let mut segment = created::<SeqFit>(alloc, 2048, IndexKind::Flat)?;
-    let client = ready(alloc, file.as_slice(), segment.types())?;
-    let mut out = Through::new(Limited::new(alloc, usize::MAX, limit));
-    let ended = trace(alloc, &mut segment, &client, &[], &mut out);
-    Ok((out.into_inner().bytes, ended))
-}
-
-/// Whether the trace of a client is these lines.
-fn has_trace(alloc: Global, text: &str, lines: &str) -> Result<bool, Fail> {
-    let (out, ended) = traced(alloc, text, usize::MAX)?;
-    Ok(out.as_slice() == lines.as_bytes() && ended == Ok(()))
-}
-
-// Clients and their traces: steps and output, references, and what is shared.
-static TRACES: [(&str, &str); 3] = [
-    (STORES, STORES_TRACE),
-    (REFERS, REFERS_TRACE),
-    (SHARES, SHARES_TRACE),
+// Clients, their traces, and how many bytes of a trace the output takes.
+static TRACES: [(&str, &str, usize); 5] = [
+    (STORES, STORES_TRACE, usize::MAX),
+    (REFERS, REFERS_TRACE, usize::MAX),
+    (CHAIN, CHAIN_TRACE, usize::MAX),
+    (SHARE, SHARE_TRACE, usize::MAX),
+    (SHARE, SHARE_TRACE, 100),
 ];
+
+/// The trace of a client on an empty segment, with an output that takes this many bytes, and whether the trace is whole.
+fn traced(alloc: Global, file: &[u8], limit: usize) -> Result<(Vec<u8>, bool), Fail> {
+    let mut segment = created::<SeqFit>(alloc, 2048, IndexKind::Flat)?;
+    let client = ready(alloc, file, segment.types())?;
+    let mut out = Through::new(Limited::new(alloc, usize::MAX, limit));
+    let is_whole = trace(alloc, &mut segment, &client, &[], &mut out).is_ok();
+    Ok((out.into_inner().bytes, is_whole))
+}
+
+/// Whether the trace of a client is these lines, as far as the output takes them.
+fn has_trace(alloc: Global, text: &str, lines: &str, limit: usize) -> Result<bool, Fail> {
+    let file = client(alloc, text)?;
+    let (out, is_whole) = traced(alloc, file.as_slice(), limit)?;
+    Ok(out.as_slice() == front(lines.as_bytes(), limit) && is_whole == (limit == usize::MAX))
+}
 
 #[test]
 fn traces(rt: HostRuntime) -> Result<(), Fail> {
-    for (text, lines) in &TRACES {
-        assert!(rt; has_trace(rt.alloc(), text, lines)?, "{lines}");
+    for (text, lines, limit) in &TRACES {
+        assert!(rt; has_trace(rt.alloc(), text, lines, *limit)?, "{lines}");
     }
-    Ok(())
-}
-
-#[test]
-fn cuts_long_paths_and_output(rt: HostRuntime) -> Result<(), Fail> {
-    let (out, _) = traced(rt.alloc(), CHAIN, usize::MAX)?;
-    assert!(rt; out.as_slice().ends_with(CHAIN_END.as_bytes()));
-    Ok(())
-}
-
-/// The output takes a prefix of the trace, and then ends it.
-#[test]
-fn ends_at_an_output_that_fails(rt: HostRuntime) -> Result<(), Fail> {
-    let (out, ended) = traced(rt.alloc(), STORES, 100)?;
-    let is_cut = out.as_slice() == front(STORES_TRACE.as_bytes(), 100);
-    assert!(rt; is_cut && ended == Err(Untraced::OutputFailed));
     Ok(())
 }

@@ -1,4 +1,4 @@
-use Rattle.test_run.proofs.PositionLaws.{uncounted_index, uncounted_pointer, pointless_pointer, two_owners_owner, overfull_value}
+use Rattle.test_run.proofs.faults.PositionLaws.{uncounted_index, uncounted_pointer, pointless_pointer, two_owners_owner, overfull_value}
 use Rattle.test_run.proofs.faults.positions.Goals as goal
 
 pub returns : goal.returns

@@ -3,7 +3,7 @@ use Rattle.seg_spec.specs.Fixtures.{other_magic, linked, counter, no_owner}
 use Rattle.test_definitions.proofs.WorkedImages.Parts.{other_magic-lacks, odd_type-lacks, linked-lacks, lost_gap-lacks, lost_gap-tiles_right, two_owners-lacks, no_owner-lacks, one_failure}
 use Rattle.test_definitions.proofs.WorkedImages.SoundImages.{counter_sound}
 use Rattle.test_definitions.proofs.WorkedImages.UnsoundImages.{no_owner-unsound}
-use Rattle.test_run.proofs.FaultLaws.{sound_image, no_fault, counter_image, counter_other, counter_its}
+use Rattle.test_run.proofs.faults.FaultLaws.{sound_image, no_fault, counter_image, counter_other, counter_its}
 use Rattle.test_run.proofs.faults.small_images.Goals as goal
 
 pub returns : goal.returns

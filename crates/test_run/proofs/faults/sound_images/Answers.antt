@@ -1,4 +1,4 @@
-use Rattle.test_run.proofs.FaultLaws.{sound_image, one_table, no_fault}
+use Rattle.test_run.proofs.faults.FaultLaws.{sound_image, one_table, no_fault}
 use Rattle.test_run.proofs.faults.sound_images.Goals as goal
 
 pub returns : goal.returns

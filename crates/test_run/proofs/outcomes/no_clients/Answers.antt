@@ -1,4 +1,4 @@
-use Rattle.test_run.proofs.OutcomeLaws as laws
+use Rattle.test_run.proofs.outcomes.OutcomeLaws as laws
 use Rattle.test_run.proofs.outcomes.no_clients.Goals as goal
 
 pub returns : goal.returns

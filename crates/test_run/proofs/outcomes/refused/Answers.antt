@@ -1,6 +1,6 @@
 use Rattle.std.proofs.Common.{inl}
 use Rattle.test_definitions.proofs.WorkedImages.SoundImages.{counter_sound}
-use Rattle.test_run.proofs.OutcomeLaws as laws
+use Rattle.test_run.proofs.outcomes.OutcomeLaws as laws
 use Rattle.test_run.proofs.outcomes.refused.Goals as goal
 
 pub returns : goal.returns

@@ -1,4 +1,4 @@
-use Rattle.test_run.proofs.SharedObjectLaws.{each_named, row_gives, row_frees, last_cell, with_it, shared_goes}
+use Rattle.test_run.proofs.sharing.SharedObjectLaws.{each_named, row_gives, row_frees, last_cell, with_it, shared_goes}
 use Rattle.test_run.proofs.sharing.rows_with_shared_objects.Goals as goal
 
 pub returns : goal.returns

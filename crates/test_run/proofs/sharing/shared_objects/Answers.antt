@@ -1,4 +1,4 @@
-use Rattle.test_run.proofs.SharedObjectLaws.{counts, numbers, trees, each_named, blocks, nothing}
+use Rattle.test_run.proofs.sharing.SharedObjectLaws.{counts, numbers, trees, each_named, blocks, nothing}
 use Rattle.test_run.proofs.sharing.shared_objects.Goals as goal
 
 pub returns : goal.returns
