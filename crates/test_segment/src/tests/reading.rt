@@ -40,7 +40,6 @@ fn read_objects<S: ImageRead>(image: &S, call: &Call) -> Option<Answer> {
 fn read_values<S: ImageRead>(image: &S, call: &Call) -> Option<Answer> {
     Some(match call.verb {
         Verb::Load => number(ImageRead::load(image, call.place)),
-        Verb::Field => place(image.field(call.place, call.size())),
         Verb::Content => place(ImageRead::content(image, call.place)),
         Verb::Frozen => place(image.frozen(call.place)),
         Verb::Text => flag_or_code(is_text(image.text(call.place), call.text)),
