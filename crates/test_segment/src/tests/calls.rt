@@ -1,7 +1,8 @@
 //! Calls on images, written as text, and what they return. After `$ new 4096` the calls on the lines below are made on a new image
 //! of that size, once for each allocator and index. After `$ new 4096 t4 t5` they are made once for each of these types too, which
-//! `t` then is. After `$ one 4096` they are made only with sequential fit and a flat index. After `$ open counter` or `$ open sharing` they are made on one of these images. After `$ image` the lines build an
-//! image, as in `image.rt`. `;` begins a comment. A line is one of these:
+//! `t` then is. After `$ one 4096` they are made only with sequential fit and a flat index, and after `$ open counter` or
+//! `$ open sharing` on one of these images. After `$ image` the lines build an image, as in `image.rt`. `;` begins a comment. A line
+//! is one of these:
 //!
 //!     P = construct pair t7       P is the place that the call returns
 //!     find pair t7 => P           the call returns this place, number, code or fault
@@ -11,8 +12,8 @@
 //!
 //! Without a result, a call must succeed, and not return false or a number. The words before the colon are names, places (capital
 //! letters), types (`t3`) and numbers; a name that has a space is given after the colon. Codes are written as in `answers.rt`, and
-//! the faults of images as in `image.rt`. Each call that only reads is made on the open image and on a checked image of the same
-//! bytes, if they are sound.
+//! the faults of images as in `image.rt`; `size` is the fault of a size that no image has. A value is read in the open image, and in
+//! a checked image of the same bytes if they are sound.
 
 use crate::tests::answers::Answer;
 use crate::tests::changing::change;
@@ -27,9 +28,11 @@ use support_data::{counter, number, sharing, statements};
 /// A kind of image.
 type Kind = (AllocatorKind, IndexKind);
 
+const SEQ_FLAT: Kind = (AllocatorKind::Seq, IndexKind::Flat);
+
 // Both allocators with both indexes.
 static KINDS: [Kind; 4] = [
-    (AllocatorKind::Seq, IndexKind::Flat),
+    SEQ_FLAT,
     (AllocatorKind::Seq, IndexKind::Tree),
     (AllocatorKind::Best, IndexKind::Flat),
     (AllocatorKind::Best, IndexKind::Tree),
@@ -163,7 +166,7 @@ pub(crate) fn play(alloc: Global, text: &str) -> Result<(), Fail> {
         let (word, words) = words.split_once(' ').unwrap_or((words, ""));
         match word {
             "new" => on_new(alloc, words, statement.lines, &KINDS)?,
-            "one" => on_new(alloc, words, statement.lines, &KINDS[..1])?,
+            "one" => on_new(alloc, words, statement.lines, &[SEQ_FLAT])?,
             "open" => Host::open(alloc, words)?.follow(alloc, statement.lines, 0)?,
             "image" => {
                 image_of(alloc, statement.lines)?;

@@ -11,8 +11,7 @@
 //! bits; `at->named` or `at->null` for a pointer. A block is `named`; an `object` (`unique` if its type's pointer for unique
 //! objects points to it); a `buffer`; a `node`; an `index` or an `index_node`, for names; or `frozen`, an object that cells
 //! share. A fault is written as what is wrong, and where: `header`, `type`, `block`, `free`, `index`, `pointer`, `twice` for two
-//! owners, `unowned`, `value`, or `size` for a wrong size of a segment; `sound` is no fault. An image has version 1, unless 8=2
-//! sets another.
+//! owners, `unowned`, or `value`; `sound` is no fault. An image has version 1, unless 8=2 sets another.
 
 use seg_image::{ENTRY, Fault, check};
 use std::alloc::Global;
@@ -141,7 +140,7 @@ impl ImageBuilder {
     fn push(&mut self, payload: u32, size: u32, tag: u32) -> Option<()> {
         let units = size % LIVE;
         let block = self.bytes.len();
-        let end = block.saturating_add(units as usize * 16);
+        let end = block.saturating_add((units as usize).saturating_mul(16));
         if payload as usize != block.saturating_add(16) || self.bytes.resize(end, 0).is_err() {
             return None;
         }
@@ -232,7 +231,6 @@ pub(crate) fn is_told(fault: Option<Fault>, words: &str) -> bool {
 fn in_words(fault: Option<Fault>) -> (&'static str, Option<u32>) {
     match fault {
         None => ("sound", None),
-        Some(Fault::BadSize) => ("size", None),
         Some(Fault::BadHeader) => ("header", None),
         Some(Fault::BadType(t)) => ("type", Some(t)),
         Some(Fault::BadBlock(at)) => ("block", Some(at)),
