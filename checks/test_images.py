@@ -8,11 +8,10 @@ import sys
 from pathlib import Path
 
 ROOT = Path(__file__).resolve().parent.parent
-TYPE_KINDS = "unused i64 str vec list flat_map map own struct shared unknown".split()
+TYPE_KINDS = "unused i64 str vec list flat_map map own struct shared".split()
 BLOCK_KINDS = "gap named object buffer node index index_node frozen".split()
 LIVE = 1 << 31
 TYPES, UNIQUES, HEAP = 64, 576, 704
-LITERAL = r'"((?:[^"\\]|\\.)*)"'
 
 
 class Image:
@@ -100,34 +99,27 @@ def word_of(text):
     return number(low) + (number(high) << 16 if high else 0)
 
 
-def plain(literal):
-    return re.sub(r"\\\n\s*", "", literal)
-
-
-def images_of(texts):
-    """The images of some texts, one after the other."""
+def images_of(text):
+    """The images of a text: the image that it builds, with each list of changes."""
     image = Image()
-    for line in "\n".join(texts).split("\n"):
+    for line in text.split("\n"):
         changes, arrow, _ = line.partition(";")[0].partition("=>")
         if not arrow:
             image.build(changes)
             continue
         for change in changes.split("|"):
             changed = Image(bytearray(image.bytes))
-            changed.types, changed.before = image.types, image.before
             changed.build(change)
             yield bytes(changed.bytes)
 
 
-def lists_of(source):
-    """The lists of texts in a file, with its named texts put in."""
-    named = {name: plain(text) for name, text in re.findall(rf"(?:const|static) (\w+): &str =\s*{LITERAL}", source, re.S)}
-    without_comments = re.sub(r"^\s*//.*$", "", source, flags=re.M)
-    for inside in re.findall(rf"&\[((?:\s*(?:[A-Z][A-Z_0-9]*|{LITERAL})\s*,?)+)\s*\]", without_comments, re.S):
-        words = re.findall(rf"([A-Z][A-Z_0-9]*)(?=\s*(?:,|$))|{LITERAL}", inside[0] if isinstance(inside, tuple) else inside, re.S)
-        texts = [named.get(name, "") if name else plain(text) for name, text in words]
-        if any("=>" in text for text in texts):
-            yield texts
+def texts_of(source):
+    """The texts of images in a file: the statements that begin with `$ image`, and constants without statements."""
+    for text in re.findall(r'const \w+: &str = "\n([^"]*)"', source):
+        first, *statements = text.split("$")
+        yield from (lines.partition("\n")[2] for lines in statements if lines.split()[:1] == ["image"])
+        if not statements:
+            yield first
 
 
 def changed_counters():
@@ -150,14 +142,14 @@ def main():
     folder.mkdir(parents=True, exist_ok=True)
     found, unread = dict.fromkeys(changed_counters()), 0
     for file in sorted((ROOT / "crates" / "test_segment" / "src" / "tests").glob("*.rt")):
-        for texts in lists_of(file.read_text(encoding="utf-8")):
+        for text in texts_of(file.read_text(encoding="utf-8")):
             try:
-                found.update(dict.fromkeys(images_of(texts)))
+                found.update(dict.fromkeys(images_of(text)))
             except (ValueError, IndexError, struct.error):
                 unread += 1
     for index, image in enumerate(found):
         (folder / f"{index:04}.image").write_bytes(image)
-    print(f"{len(found)} images; {unread} lists of texts weren't understood")
+    print(f"{len(found)} images; {unread} texts weren't understood")
 
 
 if __name__ == "__main__":

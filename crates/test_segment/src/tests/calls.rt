@@ -1,54 +1,55 @@
 //! Calls on images, written as text, and what they return. After `$ new 4096` the calls on the lines below are made on a new image
 //! of that size, once for each allocator and index. After `$ new 4096 t4 t5` they are made once for each of these types too, which
-//! `t` then is. After `$ open counter` or `$ open sharing` they are made on one of these images. `;` begins a comment. A line is
-//! one of these:
+//! `t` then is. After `$ one 4096` they are made only with sequential fit and a flat index, and after `$ open counter` or
+//! `$ open sharing` on one of these images. After `$ image` the lines build an image, as in `image.rt`. `;` begins a comment. A line
+//! is one of these:
 //!
 //!     P = construct pair t7       P is the place that the call returns
 //!     find pair t7 => P           the call returns this place, number, code or fault
 //!     destroy pair t0 => no       the call returns false
 //!     assign T: good day          the bytes, words or numbers that a call is given, or with which its results are compared
+//!     20 times push_back V        the call is made that often; `|` separates several calls
 //!
 //! Without a result, a call must succeed, and not return false or a number. The words before the colon are names, places (capital
 //! letters), types (`t3`) and numbers; a name that has a space is given after the colon. Codes are written as in `answers.rt`, and
-//! the faults of images as in `image.rt`. Each call that only reads is made on the open image and on a checked image of the same
-//! bytes, if they are sound.
+//! the faults of images as in `image.rt`; `size` is the fault of a size that no image has. A value is read in the open image, and in
+//! a checked image of the same bytes if they are sound.
 
 use crate::tests::answers::Answer;
 use crate::tests::changing::change;
-use crate::tests::image::type_id;
+use crate::tests::image::{entry_of, image_of, type_id, without_comment};
 use crate::tests::reading::read;
-use crate::tests::support::opened;
 use crate::tests::verbs::{Verb, verb_of};
-use seg_image::{AllocatorKind, Fields, Image, IndexKind, Place, Type, TypeId, type_table};
+use seg_image::{AllocatorKind, Image, IndexKind, Place, TypeId, TypeTable};
 use std::alloc::Global;
 use std::test::Fail;
 use support_data::{counter, number, sharing, statements};
 
+/// A kind of image.
+type Kind = (AllocatorKind, IndexKind);
+
+const SEQ_FLAT: Kind = (AllocatorKind::Seq, IndexKind::Flat);
+
 // Both allocators with both indexes.
-static KINDS: [(AllocatorKind, IndexKind); 4] = [
-    (AllocatorKind::Seq, IndexKind::Flat),
+static KINDS: [Kind; 4] = [
+    SEQ_FLAT,
     (AllocatorKind::Seq, IndexKind::Tree),
     (AllocatorKind::Best, IndexKind::Flat),
     (AllocatorKind::Best, IndexKind::Tree),
 ];
 
-/// The types of a new image: a number, a text, containers of numbers, an own, a struct and a shared cell; then an own and a shared
-/// cell of pairs, which are a number and such a cell.
-fn types() -> Option<[Type; 12]> {
-    Some([
-        Type::I64,
-        Type::Str,
-        Type::Vec(0),
-        Type::List(0),
-        Type::FlatMap(0),
-        Type::Map(0),
-        Type::Own(0),
-        Type::Struct(Fields::new(&[0, 1])?),
-        Type::Shared(0),
-        Type::Own(11),
-        Type::Shared(11),
-        Type::Struct(Fields::new(&[0, 10])?),
-    ])
+/// The types of a new image: a number, a text, containers of numbers, an own, a struct and a shared cell. Then pairs of a number and
+/// a shared cell of such a pair, and pairs of a number and an own of such a pair.
+const TYPES: &str =
+    "i64, str, vec t0, list t0, flat_map t0, map t0, own t0, struct t0 t1, shared t0, own t11, \
+    shared t11, struct t0 t10, own t13, struct t0 t12";
+
+fn table(alloc: Global) -> Result<TypeTable, Fail> {
+    let mut bytes = Vec::new(alloc);
+    for words in TYPES.split(',') {
+        bytes.extend_from_slice(&entry_of(words).ok_or("no type")?)?;
+    }
+    Ok(TypeTable::read_shared(&bytes)?)
 }
 
 /// The place of a letter to which no place was given yet.
@@ -158,34 +159,34 @@ fn is_returned(found: Answer, told: &str, places: &Places) -> bool {
     }
 }
 
-/// Makes the calls of each statement.
-pub(crate) fn make_calls(alloc: Global, text: &str) -> Result<(), Fail> {
+/// Makes the calls of each statement, and finds the faults of each image.
+pub(crate) fn play(alloc: Global, text: &str) -> Result<(), Fail> {
     for statement in statements(alloc, text)? {
-        let (word, words) = statement.words.trim().split_once(' ').ok_or("no image")?;
+        let words = statement.words.trim();
+        let (word, words) = words.split_once(' ').unwrap_or((words, ""));
         match word {
-            "new" => on_new(alloc, words, statement.lines)?,
-            _ => Host::open(alloc, words)?.follow(alloc, statement.lines, 0)?,
+            "new" => on_new(alloc, words, statement.lines, &KINDS)?,
+            "one" => on_new(alloc, words, statement.lines, &[SEQ_FLAT])?,
+            "open" => Host::open(alloc, words)?.follow(alloc, statement.lines, 0)?,
+            "image" => {
+                image_of(alloc, statement.lines)?;
+            }
+            _ => return Err(Fail::new(format_args!("no such statement: {word}"))),
         }
     }
     Ok(())
 }
 
-/// Makes calls on new images of a size, once for each type if there are types.
-fn on_new(alloc: Global, words: &str, lines: &str) -> Result<(), Fail> {
+/// Makes calls on new images of a size, of each of these kinds, once for each type if there are types.
+fn on_new(alloc: Global, words: &str, lines: &str, kinds: &[Kind]) -> Result<(), Fail> {
     let (size, types) = words.split_once(' ').unwrap_or((words, "t0"));
     let size = number(size).ok_or("no size")?;
     for word in types.split_whitespace() {
         let t = type_id(word).ok_or("no type")?;
-        on_each_kind(alloc, size, lines, t)?;
-    }
-    Ok(())
-}
-
-/// Makes calls on a new image of each kind, where `t` is this type.
-fn on_each_kind(alloc: Global, size: u32, lines: &str, t: TypeId) -> Result<(), Fail> {
-    for (allocator, index) in &KINDS {
-        let mut host = Host::new(alloc, size, *allocator, *index)?;
-        host.follow(alloc, lines, t)?;
+        for (allocator, index) in kinds {
+            let image = Image::create(alloc, size, *allocator, *index)?;
+            Host::with_types(alloc, image)?.follow(alloc, lines, t)?;
+        }
     }
     Ok(())
 }
@@ -198,19 +199,17 @@ struct Host {
 }
 
 impl Host {
-    /// A new image with the types above.
-    fn new(
-        alloc: Global,
-        size: u32,
-        allocator: AllocatorKind,
-        index: IndexKind,
-    ) -> Result<Host, Fail> {
-        let mut image = Image::create(alloc, size, allocator, index)?;
-        image.add_types(&type_table(&types().ok_or("no types")?)?)?;
-        Ok(Host {
+    fn of(image: Image<Global>) -> Host {
+        Host {
             image,
             places: [UNKNOWN; 26],
-        })
+        }
+    }
+
+    /// An image to which the types above are added.
+    fn with_types(alloc: Global, mut image: Image<Global>) -> Result<Host, Fail> {
+        image.add_types(&table(alloc)?)?;
+        Ok(Host::of(image))
     }
 
     /// The image with a name, opened.
@@ -220,18 +219,30 @@ impl Host {
             "sharing" => sharing(alloc)?,
             _ => return Err(Fail::new("no such image")),
         };
-        Ok(Host {
-            image: opened(alloc, bytes).ok_or("unsound")?,
-            places: [UNKNOWN; 26],
-        })
+        let image = Image::open(alloc, bytes).ok();
+        Ok(Host::of(image.ok_or("unsound")?))
     }
 
     /// Makes the calls of these lines.
     fn follow(&mut self, alloc: Global, lines: &str, t: TypeId) -> Result<(), Fail> {
         for line in lines.lines() {
-            let (line, _) = line.split_once(';').unwrap_or((line, ""));
-            if !line.trim().is_empty() {
-                self.make(alloc, line, t)?;
+            let line = without_comment(line);
+            match line.split_once(" times ") {
+                Some((count, calls)) => {
+                    self.repeat(alloc, number(count).ok_or("no number")?, calls, t)?
+                }
+                None if line.is_empty() => {}
+                None => self.make(alloc, line, t)?,
+            }
+        }
+        Ok(())
+    }
+
+    /// Makes several calls, one after the other, this often.
+    fn repeat(&mut self, alloc: Global, count: u32, calls: &str, t: TypeId) -> Result<(), Fail> {
+        for _ in 0..count {
+            for call in calls.split('|') {
+                self.make(alloc, call, t)?;
             }
         }
         Ok(())

@@ -3,7 +3,6 @@
 use crate::tests::answers::{Answer, count, done, flag, number, place, size, size_of};
 use crate::tests::calls::Call;
 use crate::tests::image::is_told;
-use crate::tests::support::opened;
 use crate::tests::tiles::are_live;
 use crate::tests::verbs::Verb;
 use seg_image::{CheckedImage, Code, Fault, Image, ImageRead, Place, check};
@@ -31,11 +30,12 @@ pub(crate) fn change(alloc: Global, image: &mut Image<Global>, call: &Call) -> O
 
 fn change_values(alloc: Global, image: &mut Image<Global>, call: &Call) -> Option<Answer> {
     Some(match call.verb {
+        Verb::Field => place(image.field(call.place, call.size())),
         Verb::Store => done(image.store(call.place, call.long())),
         Verb::Clear => done(image.clear(call.place)),
         Verb::PutContent => place(image.put_content(call.place)),
         Verb::SetOwn => give(image, call.other, call.place),
-        Verb::TakeOwn => take(image, call.place),
+        Verb::TakeOwn => place(take(image, call.place)),
         Verb::Freeze => done(image.freeze(call.other, call.place)),
         Verb::Share => done(image.share(call.other, call.place)),
         Verb::Assign => done(image.assign(call.place, call.text.as_bytes())),
@@ -107,13 +107,15 @@ fn give(image: &mut Image<Global>, own: Place, object: Place) -> Answer {
     done(Ok(()))
 }
 
-/// Takes the object out of an own. Returns its position.
-fn take(image: &mut Image<Global>, own: Place) -> Answer {
+/// Takes the object out of an own. Returns its place.
+fn take(image: &mut Image<Global>, own: Place) -> Result<Place, Code> {
+    let Place { at: _, type_id } = ImageRead::content(image, own)?;
     let object = match image {
         Image::Seq(segment) => take_own(segment.heap_mut(), own),
         Image::Best(segment) => take_own(segment.heap_mut(), own),
     };
-    size(object.ok_or(Code::Null))
+    let at = object.ok_or(Code::Null)?;
+    Ok(Place { at, type_id })
 }
 
 /// Makes an image larger. Returns its size.
@@ -168,7 +170,7 @@ fn neighbour(at: u32, call: &Call) -> Answer {
 /// Opens the bytes of an image as the image. Returns whether they are sound.
 fn reopen(alloc: Global, image: &mut Image<Global>) -> Option<bool> {
     let bytes = Vec::from_slice(alloc, image.bytes()).ok()?;
-    *image = opened(alloc, bytes)?;
+    *image = Image::open(alloc, bytes).ok()?;
     Some(true)
 }
 

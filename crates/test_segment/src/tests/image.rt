@@ -11,114 +11,94 @@
 //! bits; `at->named` or `at->null` for a pointer. A block is `named`; an `object` (`unique` if its type's pointer for unique
 //! objects points to it); a `buffer`; a `node`; an `index` or an `index_node`, for names; or `frozen`, an object that cells
 //! share. A fault is written as what is wrong, and where: `header`, `type`, `block`, `free`, `index`, `pointer`, `twice` for two
-//! owners, `unowned`, `value`, or `size` for a wrong size of a segment; `sound` is no fault. An image has version 1, unless 8=2
-//! sets another.
+//! owners, `unowned`, or `value`; `sound` is no fault. An image has version 1, unless 8=2 sets another.
 
-use crate::tests::support::{first_fault, window};
-use seg_manager::header::{SIZE, TYPES, UNIQUES};
-use seg_manager::{ENTRY, Fault, Window};
+use seg_image::{ENTRY, Fault, check};
 use std::alloc::Global;
 use std::test::Fail;
-use support_data::{change, number};
+use support_data::{change, number, write, write_words};
 
 /// The bit of a header's first word that is set if the block is allocated.
 const LIVE: u32 = 1 << 31;
 
-/// The position of the heap.
-const HEAP: u32 = 704;
+/// The word of a pointer that points to nothing.
+const NULL: u32 = 1;
 
-/// The most bytes of an image here.
-const ROOM: u32 = 4096;
+/// The position of the image's size, in units.
+const SIZE: usize = 12;
+
+/// The position of the types.
+const TYPES: usize = 64;
+
+/// The position of the pointers to unique objects.
+const UNIQUES: u32 = 576;
+
+/// The position of the heap.
+const HEAP: usize = 704;
 
 /// An image that is built block by block.
 #[derive(Drop)]
-pub(crate) struct ImageBuilder {
-    pub(crate) w: Window<Global>,
+struct ImageBuilder {
+    bytes: Vec<u8>,
     types: usize,
     /// The units of the last block. 0 if there is no block yet.
     before: u32,
 }
 
-/// Tests each of several images, as [`checks`] tests one.
-pub(crate) fn check_each(alloc: Global, images: &[&[&str]]) -> Result<(), Fail> {
-    for texts in images {
-        checks(alloc, texts)?;
+/// The image of a text, after a test of the faults that the text states.
+pub(crate) fn image_of(alloc: Global, text: &str) -> Result<Vec<u8>, Fail> {
+    let mut image = ImageBuilder::empty(alloc)?;
+    for line in text.lines() {
+        image.follow(alloc, without_comment(line))?;
     }
-    Ok(())
+    Ok(image.bytes)
 }
 
-/// Tests that the image of these texts, one after the other, has the faults that they state.
-pub(crate) fn checks(alloc: Global, texts: &[&str]) -> Result<(), Fail> {
-    let mut image = ImageBuilder::empty(alloc)?;
-    for text in texts {
-        image.follow(alloc, text)?;
+pub(crate) fn without_comment(line: &str) -> &str {
+    match line.split_once(';') {
+        Some((line, _)) => line.trim(),
+        None => line.trim(),
     }
-    Ok(())
 }
 
 impl ImageBuilder {
-    /// The image of a text, after a test of the faults that the text states.
-    pub(crate) fn of(alloc: Global, text: &str) -> Result<ImageBuilder, Fail> {
-        let mut image = ImageBuilder::empty(alloc)?;
-        image.follow(alloc, text)?;
-        Ok(image)
-    }
-
     /// An image with a header but without types, names, unique objects and blocks.
     fn empty(alloc: Global) -> Result<ImageBuilder, Fail> {
-        let mut w = window(alloc, ROOM, HEAP)?;
-        w.copy_in(0, b"SEGIMAGE");
-        for at in [8, 24, 32] {
-            w.put32(at, 1);
-        }
-        for t in 0..32 {
-            w.put32(UNIQUES + 4 * t, 1);
-        }
+        let mut bytes = Vec::from_elem(alloc, 0u8, HEAP)?;
+        let header = bytes.as_mut_slice();
+        write(header, 0, b"SEGIMAGE");
+        write_words(header, 8, &[1, 0, 0, 0, NULL, 0, NULL]);
+        write_words(header, UNIQUES as usize, &[NULL; 32]);
         Ok(ImageBuilder {
-            w,
+            bytes,
             types: 0,
             before: 0,
         })
     }
 
-    /// Does what each line requires.
-    pub(crate) fn follow(&mut self, alloc: Global, text: &str) -> Result<(), Fail> {
-        for line in text.lines() {
-            let (line, _) = line.split_once(';').unwrap_or((line, ""));
-            match line.split_once("=>") {
-                Some((changes, fault)) => {
-                    for change in changes.split('|') {
-                        self.finds(alloc, change, fault)?;
-                    }
-                }
-                None => self.builds(line)?,
-            }
+    /// Does what a line requires.
+    fn follow(&mut self, alloc: Global, line: &str) -> Result<(), Fail> {
+        let Some((changes, fault)) = line.split_once("=>") else {
+            return match self.build(line) {
+                Some(()) => Ok(()),
+                None => Err(Fail::new(format_args!("not understood: {line}"))),
+            };
+        };
+        for change in changes.split('|') {
+            self.finds(alloc, change, fault)?;
         }
         Ok(())
     }
 
-    /// Tests that the image with these changes, which are then undone, has this first fault.
-    fn finds(&mut self, alloc: Global, changes: &str, fault: &str) -> Result<(), Fail> {
-        let bytes = Vec::from_slice(alloc, self.w.slice(0, self.w.len() as usize))?;
-        self.builds(changes)?;
-        let found = self.fault(alloc);
-        self.w.copy_in(0, bytes.as_slice());
+    /// Tests that the image with these changes has this first fault.
+    fn finds(&self, alloc: Global, changes: &str, fault: &str) -> Result<(), Fail> {
+        let mut changed = Vec::from_slice(alloc, self.bytes.as_slice())?;
+        change(changed.as_mut_slice(), changes).ok_or("changes aren't understood")?;
+        let found = check(alloc, changed.as_slice()).err();
         if is_told(found, fault) {
             return Ok(());
         }
         Err(Fail::new(format_args!("{changes} => {fault}, not {found:?}")))
-    }
-
-    /// The image's first fault, or `None` if it is sound.
-    pub(crate) fn fault(&self, alloc: Global) -> Option<Fault> {
-        first_fault(alloc, &self.w)
-    }
-
-    fn builds(&mut self, line: &str) -> Result<(), Fail> {
-        match self.build(line.trim()) {
-            Some(()) => Ok(()),
-            None => Err(Fail::new(format_args!("not understood: {line}"))),
-        }
     }
 
     fn build(&mut self, line: &str) -> Option<()> {
@@ -131,13 +111,13 @@ impl ImageBuilder {
         let (first, words) = line.split_once(' ').unwrap_or((line, ""));
         match number(first) {
             Some(at) => self.add_block(at, words),
-            None => change(self.w.bytes_mut(), line),
+            None => change(self.bytes.as_mut_slice(), line),
         }
     }
 
     fn add_type(&mut self, words: &str) -> Option<()> {
         let at = TYPES.saturating_add(self.types.saturating_mul(ENTRY));
-        self.w.copy_in(at, &entry_of(words)?);
+        write(self.bytes.as_mut_slice(), at, &entry_of(words)?);
         self.types = self.types.saturating_add(1);
         Some(())
     }
@@ -146,50 +126,49 @@ impl ImageBuilder {
     fn add_block(&mut self, payload: u32, words: &str) -> Option<()> {
         let (kind, words) = words.split_once(' ')?;
         if kind == "gap" {
-            return self.push(payload, number(words)?, 0, 0);
+            return self.push(payload, number(words)?, 0);
         }
         let (t, units) = words.split_once(' ')?;
-        let (t, units) = (type_id(t)?, number(units)?);
+        let t = type_id(t)?;
         if kind == "unique" {
-            self.w.point(UNIQUES + 4 * usize::from(t), Some(payload));
-            return self.push(payload, units, LIVE, tag_of("object", t)?);
+            self.point(UNIQUES + 4 * u32::from(t), payload);
         }
-        self.push(payload, units, LIVE, tag_of(kind, t)?)
+        self.push(payload, LIVE.wrapping_add(number(units)?), tag_of(kind, t)?)
     }
 
-    /// Adds a block at the end of the heap.
-    fn push(&mut self, payload: u32, units: u32, live: u32, tag: u32) -> Option<()> {
-        let block = self.w.len();
-        let end = block.saturating_add(units.saturating_mul(16));
-        if payload != block.saturating_add(16) || self.w.resize(end).is_err() {
+    /// Adds a block at the end of the heap. `size` is its first word: its units, with a bit if it is allocated.
+    fn push(&mut self, payload: u32, size: u32, tag: u32) -> Option<()> {
+        let units = size % LIVE;
+        let block = self.bytes.len();
+        let end = block.saturating_add((units as usize).saturating_mul(16));
+        if payload as usize != block.saturating_add(16) || self.bytes.resize(end, 0).is_err() {
             return None;
         }
-        let at = block as usize;
-        self.w.put32(at, units.wrapping_add(live));
-        self.w.put32(at.saturating_add(4), self.before);
-        self.w.put32(at.saturating_add(8), tag);
-        self.w.point(at.saturating_add(12), None);
-        self.w.put32(SIZE, end / 16);
+        let bytes = self.bytes.as_mut_slice();
+        write_words(bytes, block, &[size, self.before, tag, NULL]);
+        write_words(bytes, SIZE, &[u32::try_from(end / 16).ok()?]);
         self.before = units;
         Some(())
+    }
+
+    /// Makes a pointer point to a payload.
+    fn point(&mut self, at: u32, payload: u32) {
+        let distance = payload.wrapping_sub(at);
+        write_words(self.bytes.as_mut_slice(), at as usize, &[distance]);
     }
 
     /// Adds nodes: their kind, the pointer to the first one, and their number.
     fn add_chain(&mut self, words: &str) -> Option<()> {
         let (kind, words) = words.split_once(' ')?;
         let (from, nodes) = words.split_once(' ')?;
-        self.push_chain(tag_of(kind, 0)?, number(from)?, number(nodes)?)
-    }
-
-    fn push_chain(&mut self, tag: u32, from: u32, nodes: u32) -> Option<()> {
-        let mut pointer = from as usize;
+        let (tag, nodes) = (tag_of(kind, 0)?, number(nodes)?);
+        let mut pointer = number(from)?;
         for _ in 0..nodes {
-            let node = self.w.len().saturating_add(16);
-            self.push(node, 3, LIVE, tag)?;
-            self.w.point(node as usize, None);
-            self.w.point((node as usize).saturating_add(4), None);
-            self.w.point(pointer, Some(node));
-            pointer = node as usize;
+            let node = u32::try_from(self.bytes.len()).ok()?.saturating_add(16);
+            self.push(node, LIVE + 3, tag)?;
+            write_words(self.bytes.as_mut_slice(), node as usize, &[NULL, NULL]);
+            self.point(pointer, node);
+            pointer = node;
         }
         Some(())
     }
@@ -199,7 +178,7 @@ impl ImageBuilder {
 pub(crate) fn entry_of(words: &str) -> Option<[u8; ENTRY]> {
     let mut words = words.split_whitespace();
     let mut entry = [0; ENTRY];
-    entry[0] = kind_of(words.next()?, &TYPE_KINDS)?;
+    entry[0] = kind_of(words.next()?, TYPE_KINDS)?;
     for part in words {
         let parts = entry[1];
         *entry.get_mut(usize::from(parts) + 2)? = type_id(part)?;
@@ -208,34 +187,29 @@ pub(crate) fn entry_of(words: &str) -> Option<[u8; ENTRY]> {
     Some(entry)
 }
 
-/// The kinds of types, by their numbers in entries. There is no type of the last kind.
-static TYPE_KINDS: [&str; 11] = [
-    "unused", "i64", "str", "vec", "list", "flat_map", "map", "own", "struct", "shared", "unknown",
-];
+/// The kinds of types, by their numbers in entries. There is no type of the first kind.
+const TYPE_KINDS: &str = "unused i64 str vec list flat_map map own struct shared";
+
+/// The kinds of allocated blocks, by their numbers in tags. There is no block of the first kind.
+const BLOCK_KINDS: &str = "none named object buffer node index index_node frozen";
 
 /// The tag of an allocated block.
 fn tag_of(kind: &str, t: u8) -> Option<u32> {
-    Some(u32::from(kind_of(kind, &BLOCK_KINDS)?) + 256 * u32::from(t))
+    let kind = match kind {
+        "unique" => "object",
+        _ => kind,
+    };
+    Some(u32::from(kind_of(kind, BLOCK_KINDS)?) + 256 * u32::from(t))
 }
 
-/// The kinds of allocated blocks, by their numbers in tags. There is no block of the first kind.
-static BLOCK_KINDS: [&str; 8] = [
-    "none",
-    "named",
-    "object",
-    "buffer",
-    "node",
-    "index",
-    "index_node",
-    "frozen",
-];
-
-/// The number of a kind in a list of kinds.
-fn kind_of(word: &str, kinds: &[&str]) -> Option<u8> {
-    for number in 0..kinds.len() {
-        if kinds[number] == word {
-            return u8::try_from(number).ok();
+/// The number of a kind among these kinds.
+fn kind_of(word: &str, kinds: &str) -> Option<u8> {
+    let mut number = 0u8;
+    for kind in kinds.split_whitespace() {
+        if kind == word {
+            return Some(number);
         }
+        number = number.saturating_add(1);
     }
     None
 }
@@ -257,7 +231,6 @@ pub(crate) fn is_told(fault: Option<Fault>, words: &str) -> bool {
 fn in_words(fault: Option<Fault>) -> (&'static str, Option<u32>) {
     match fault {
         None => ("sound", None),
-        Some(Fault::BadSize) => ("size", None),
         Some(Fault::BadHeader) => ("header", None),
         Some(Fault::BadType(t)) => ("type", Some(t)),
         Some(Fault::BadBlock(at)) => ("block", Some(at)),

@@ -6,23 +6,40 @@ use crate::tests::verbs::Verb;
 use seg_image::{CheckedImage, Code, Image, ImageRead, Named};
 use std::alloc::Global;
 
-/// Makes a call on an open image, and on a checked image with the same bytes and its reader, if they are sound. Returns `None` if the
-/// call doesn't only read, and false if they differ.
+/// Makes a call on an open image. Returns `None` if the call doesn't only read.
 pub(crate) fn read(alloc: Global, image: &Image<Global>, call: &Call) -> Option<Answer> {
-    let found = read_objects(image, call)?;
-    match CheckedImage::open(alloc, image.bytes()) {
-        Ok(checked) if !reads_the_same(&checked, call, found) => Some(flag(false)),
-        _ => Some(found),
+    match read_value(image, call) {
+        Some(found) => Some(read_again(alloc, image, call, found)),
+        None => read_objects(image, call),
     }
 }
 
-/// Whether a call returns this on a checked image and on its reader.
-fn reads_the_same(checked: &CheckedImage, call: &Call, found: Answer) -> bool {
-    read_objects(checked, call) == Some(found)
-        && read_objects(&checked.reader(), call) == Some(found)
+/// Reads a value, which was found in an open image, in a checked image with the same bytes and in its reader, if they are sound.
+/// Returns false if they differ.
+fn read_again(alloc: Global, image: &Image<Global>, call: &Call, found: Answer) -> Answer {
+    match CheckedImage::open(alloc, image.bytes()) {
+        Ok(checked) if !reads_the_same(&checked, call, found) => flag(false),
+        _ => found,
+    }
 }
 
-fn read_objects<S: ImageRead>(image: &S, call: &Call) -> Option<Answer> {
+fn reads_the_same(checked: &CheckedImage, call: &Call, found: Answer) -> bool {
+    read_value(checked, call) == Some(found) && read_value(&checked.reader(), call) == Some(found)
+}
+
+fn read_value<S: ImageRead>(image: &S, call: &Call) -> Option<Answer> {
+    Some(match call.verb {
+        Verb::Load => number(ImageRead::load(image, call.place)),
+        Verb::Content => place(ImageRead::content(image, call.place)),
+        Verb::Frozen => place(image.frozen(call.place)),
+        Verb::Text => flag_or_code(is_text(image.text(call.place), call.text)),
+        Verb::Len => size(ImageRead::len(image, call.place)),
+        Verb::Item => place(image.item(call.place, call.size())),
+        _ => return None,
+    })
+}
+
+fn read_objects(image: &Image<Global>, call: &Call) -> Option<Answer> {
     Some(match call.verb {
         Verb::Find => place(image.find(call.name, call.t)),
         Verb::FindItem => place(image.find_item(call.name, call.t, call.size())),
@@ -33,27 +50,14 @@ fn read_objects<S: ImageRead>(image: &S, call: &Call) -> Option<Answer> {
         Verb::NumUnique => count(image.num_unique()),
         Verb::Names => flag(are_named(image, call.text)),
         Verb::IsNamed => flag(image.named_object(call.name).is_some()),
-        _ => return read_values(image, call),
+        _ => return read_containers(image, call),
     })
 }
 
-fn read_values<S: ImageRead>(image: &S, call: &Call) -> Option<Answer> {
+fn read_containers(image: &Image<Global>, call: &Call) -> Option<Answer> {
     Some(match call.verb {
-        Verb::Load => number(ImageRead::load(image, call.place)),
-        Verb::Field => place(image.field(call.place, call.size())),
-        Verb::Content => place(ImageRead::content(image, call.place)),
-        Verb::Frozen => place(image.frozen(call.place)),
-        Verb::Text => flag_or_code(is_text(image.text(call.place), call.text)),
-        Verb::Len => size(ImageRead::len(image, call.place)),
-        Verb::Item => place(image.item(call.place, call.size())),
         Verb::Items => flag_or_code(are_items(image, call)),
         Verb::NumberBytes => flag_or_code(are_bytes(image.number_bytes(call.place), call.text)),
-        _ => return read_maps(image, call),
-    })
-}
-
-fn read_maps<S: ImageRead>(image: &S, call: &Call) -> Option<Answer> {
-    Some(match call.verb {
         Verb::Get => place(image.get(call.place, call.long())),
         Verb::FirstKey => number(image.first_key(call.place)),
         Verb::LastKey => number(image.last_key(call.place)),
@@ -96,7 +100,7 @@ fn has_words(text: &str, count: usize) -> bool {
 }
 
 /// Whether a vector or a list has the numbers of the call's text.
-fn are_items<S: ImageRead>(image: &S, call: &Call) -> Result<bool, Code> {
+fn are_items(image: &Image<Global>, call: &Call) -> Result<bool, Code> {
     let mut count = 0usize;
     for item in image.items(call.place)? {
         if !is_word(call.text, count, ImageRead::load(image, item)?) {
@@ -108,7 +112,7 @@ fn are_items<S: ImageRead>(image: &S, call: &Call) -> Result<bool, Code> {
 }
 
 /// Whether a map has the keys of the call's text, in order.
-fn are_keys<S: ImageRead>(image: &S, call: &Call) -> Result<bool, Code> {
+fn are_keys(image: &Image<Global>, call: &Call) -> Result<bool, Code> {
     let mut count = 0usize;
     for key in image.keys(call.place)? {
         if !is_word(call.text, count, key) {
@@ -120,7 +124,7 @@ fn are_keys<S: ImageRead>(image: &S, call: &Call) -> Result<bool, Code> {
 }
 
 /// Whether a map has the keys of the call's text, in order, each followed by its number.
-fn are_entries<S: ImageRead>(image: &S, call: &Call) -> Result<bool, Code> {
+fn are_entries(image: &Image<Global>, call: &Call) -> Result<bool, Code> {
     let mut count = 0usize;
     for (key, value) in image.entries(call.place)? {
         let number = ImageRead::load(image, value)?;
@@ -145,7 +149,7 @@ fn is_named(named: Named, word: &str) -> bool {
 }
 
 /// Whether exactly these names are in the index, in this order.
-fn are_named<S: ImageRead>(image: &S, text: &str) -> bool {
+fn are_named(image: &Image<Global>, text: &str) -> bool {
     let count = text.split_whitespace().count();
     follow_one_another(image, text)
         && image.names().count() == count
@@ -153,7 +157,7 @@ fn are_named<S: ImageRead>(image: &S, text: &str) -> bool {
 }
 
 /// Whether each of these names is found, and comes after the one before.
-fn follow_one_another<S: ImageRead>(image: &S, text: &str) -> bool {
+fn follow_one_another(image: &Image<Global>, text: &str) -> bool {
     let mut next = image.first_name();
     for word in text.split_whitespace() {
         let Some(named) = next else {

@@ -1,7 +1,7 @@
 //! The blocks of a heap.
 
 use seg_block::{HEAP_START, UNIT, block_at, is_live};
-use seg_manager::Window;
+use seg_image::Window;
 use std::alloc::Global;
 use support_data::number;
 
