@@ -157,6 +157,7 @@ fn run_twice(
 ) -> Result<Ran, Fail> {
     let moves = moves(alloc)?;
     let moving = Setting {
+        room: room_for(image),
         moves: moves.as_slice(),
         at_a_time: 1,
         ..setting
@@ -173,11 +174,19 @@ fn run_twice(
     }
 }
 
-/// A move before each of the first 200 steps, to two bases in turn.
+/// The second place of an image, which is at 0 first.
+const BASE: u32 = 272;
+
+/// The length of a region that has both places.
+fn room_for(image: &[u8]) -> u32 {
+    u32::try_from(image.len()).unwrap_or(0).saturating_add(BASE)
+}
+
+/// A move before each of the first 200 steps, from one place to the other.
 fn moves(alloc: Global) -> Result<Vec<Move>, AllocError> {
     let mut moves = Vec::new(alloc);
     for step in 1..=200 {
-        let base = if step % 2 == 0 { 0 } else { 272 };
+        let base = if step % 2 == 0 { 0 } else { BASE };
         moves.push(Move { step, base })?;
     }
     Ok(moves)
