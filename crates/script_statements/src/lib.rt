@@ -6,10 +6,10 @@ mod changes;
 mod lookups;
 mod loops;
 mod methods;
-mod perform;
 mod pushes;
 mod removals;
+mod tasks;
 
 pub use loops::{begin_turns, leave_loop, next_turn};
 pub use methods::begin_method;
-pub use perform::{begin, perform};
+pub use tasks::{begin, perform};

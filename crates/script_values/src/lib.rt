@@ -6,11 +6,11 @@ mod declarations;
 mod expressions;
 mod numbers;
 mod output;
-mod perform;
 mod rest;
+mod tasks;
 
 pub use arguments::{Call, begin_call, called_function, enter_function, leave_function};
 pub use declarations::declare;
 pub use expressions::has_call;
-pub use perform::perform;
 pub use rest::guard_rest;
+pub use tasks::perform;
