@@ -229,7 +229,12 @@ fn compile_blocks(emitter: &mut Emitter, tree: &Tree<'_>, statement: &Statement)
     if let Some(block) = statement.body {
         emitter.push_task(Task::Body(block, emitter.names.len(), true));
     }
-    match statement.kind {
+    bind_unknown(emitter, tree, statement.kind)
+}
+
+/// Binds the names which a statement with an error gives.
+fn bind_unknown(emitter: &mut Emitter, tree: &Tree<'_>, kind: StatementKind) {
+    match kind {
         StatementKind::Let { name, .. } | StatementKind::IfLet { name, .. } => {
             emitter.bind(name, Meaning::Unknown)
         }
