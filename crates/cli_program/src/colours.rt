@@ -14,7 +14,7 @@ const CYAN: &[u8] = b"\x1b[1;36m";
 /// Ends a colour.
 const PLAIN: &[u8] = b"\x1b[0m";
 
-/// A writer of reports. In colours, `error:`, `warning:` and `hint:` stand out, and the carets under a line of a program.
+/// A writer of reports, which can colour `error:`, `warning:`, `hint:`, and the carets under a line of a program.
 #[derive(Drop)]
 pub struct Coloured<W: Write> {
     alloc: Global,
