@@ -8,7 +8,7 @@
 //!     find pair t7 => P           the call returns this place, number, code or fault
 //!     destroy pair t0 => no       the call returns false
 //!     assign T: good day          the bytes, words or numbers that a call is given, or with which its results are compared
-//!     20 times push_back V        the call is made that often; `|` separates several calls
+//!     20 times push_back V        the call is made 20 times; `|` separates several calls
 //!
 //! Without a result, a call must succeed, and not return false or a number. The words before the colon are names, places (capital
 //! letters), types (`t3`) and numbers; a name that has a space is given after the colon. Codes are written as in `answers.rt`, and
