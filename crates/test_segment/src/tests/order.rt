@@ -18,7 +18,7 @@ type str
 784->848 788=1
 816->null 820=0
 => sound
-; each change makes a fault that comes before those of the changes above
+; each change makes a fault that comes before the faults of the changes above
 584->null
 => unowned 800
 788=2
