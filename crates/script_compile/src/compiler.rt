@@ -227,7 +227,8 @@ fn compile_blocks(emitter: &mut Emitter, tree: &Tree<'_>, statement: &Statement)
         emitter.push_task(Task::Handle(Handler::Part(part), Register(0)));
     }
     if let Some(block) = statement.body {
-        emitter.push_task(Task::Body(block, emitter.names.len(), true));
+        let names = emitter.names.len();
+        emitter.push_task(Task::Body(block, names, true));
     }
     bind_unknown(emitter, tree, statement.kind)
 }
