@@ -6,7 +6,6 @@ use cli_host::{Files, Request, has_source, read_file, read_files, read_image};
 use cli_program::{Failure, slices, tell};
 use lezgauri::{Fault, Refused, Sink};
 use std::alloc::{AllocError, Global};
-use std::slice;
 
 /// Explains why a command failed, in words. For a refusal it reads the files again, and leaves out a file that can't be read any
 /// more.
@@ -42,7 +41,7 @@ fn refusal<'a, F: Files>(
     if let (Request::Load(_), Fault::BadLine(line)) = (request, refused.fault) {
         return wrong_dump(alloc, line);
     }
-    let read = Read::again(alloc, request, files);
+    let read = Read::again(alloc, request, files)?;
     explained(alloc, refused, &read)
 }
 
@@ -72,21 +71,24 @@ fn explained(alloc: Global, refused: &Refused, read: &Read) -> Result<Vec<u8>, A
 
 /// The contents of the files that a command works on, if they can be read again.
 #[derive(Drop)]
-struct Read<'r, 'a> {
+struct Read<'a> {
     image: Option<Vec<u8>>,
     /// The text to assemble.
     text: Option<Vec<u8>>,
     /// The names of the clients' files, and what they contain.
-    names: &'r [&'a str],
+    names: Vec<&'a str>,
     sources: Vec<Vec<u8>>,
     /// What these are translated to, if some of them are programs or texts.
     translated: Option<Vec<Vec<u8>>>,
 }
 
-impl<'r, 'a> Read<'r, 'a> {
-    fn again<F: Files>(alloc: Global, request: &'r Request<'a>, files: &mut F) -> Read<'r, 'a> {
-        let (image, names) = named_files(request);
-        let image = match image {
+impl<'a> Read<'a> {
+    fn again<F: Files>(
+        alloc: Global,
+        request: &Request<'a>,
+        files: &mut F,
+    ) -> Result<Read<'a>, AllocError> {
+        let image = match image_of(request) {
             Some(name) => read_image(alloc, files, name).ok(),
             None => None,
         };
@@ -94,7 +96,8 @@ impl<'r, 'a> Read<'r, 'a> {
             Request::Assemble(assembly) => read_file(alloc, files, assembly.text).ok(),
             _ => None,
         };
-        let sources = match read_files(alloc, files, names) {
+        let names = clients_of(alloc, request)?;
+        let sources = match read_files(alloc, files, names.as_slice()) {
             Ok(sources) => sources,
             Err(_) => Vec::new(alloc),
         };
@@ -106,14 +109,14 @@ impl<'r, 'a> Read<'r, 'a> {
             translated: None,
         };
         read.translate(alloc);
-        read
+        Ok(read)
     }
 
     /// Translates programs and texts.
     fn translate(&mut self, alloc: Global) {
-        if let (Some(image), true) = (&self.image, has_source(self.names)) {
-            let sources = self.sources.as_slice();
-            let clients = translated_again(alloc, self.names, sources, image.as_slice());
+        let names = self.names.as_slice();
+        if let (Some(image), true) = (&self.image, has_source(names)) {
+            let clients = translated_again(alloc, names, self.sources.as_slice(), image.as_slice());
             self.translated = Some(clients);
         }
     }
@@ -141,19 +144,39 @@ impl<'r, 'a> Read<'r, 'a> {
     }
 }
 
-/// The names of the files that a command works on: of the image, and of the clients.
-fn named_files<'r, 'a>(request: &'r Request<'a>) -> (Option<&'a str>, &'r [&'a str]) {
+/// The file of the image that a command works on.
+fn image_of<'a>(request: &Request<'a>) -> Option<&'a str> {
     match request {
-        Request::Image { file, .. } => (Some(*file), &[]),
-        Request::Verify { image, client } => (Some(*image), slice::from_ref(client)),
-        Request::Run(run) | Request::RunSources(run) => (Some(run.image), run.clients.as_slice()),
-        Request::Trace(trace) => (Some(trace.image), trace.clients.as_slice()),
-        Request::Compile(compilation) => (compilation.image, &[]),
-        Request::Print { client } => (None, slice::from_ref(client)),
+        Request::Image { file, .. } => Some(file),
+        Request::Verify { image, .. } => Some(image),
+        Request::Run(run) | Request::RunSources(run) => Some(run.image),
+        Request::Trace(trace) => Some(trace.image),
+        Request::Compile(compilation) => compilation.image,
         Request::New(_)
         | Request::Compare { .. }
         | Request::Load(_)
         | Request::Assemble(_)
-        | Request::Help(_) => (None, &[]),
+        | Request::Print { .. }
+        | Request::Help(_) => None,
+    }
+}
+
+/// The files of the clients that a command works on.
+fn clients_of<'a>(alloc: Global, request: &Request<'a>) -> Result<Vec<&'a str>, AllocError> {
+    match request {
+        Request::Verify { client, .. } | Request::Print { client } => {
+            Vec::from_slice(alloc, &[*client])
+        }
+        Request::Trace(trace) => Vec::from_slice(alloc, trace.clients.as_slice()),
+        Request::Run(run) | Request::RunSources(run) => {
+            Vec::from_slice(alloc, run.clients.as_slice())
+        }
+        Request::New(_)
+        | Request::Image { .. }
+        | Request::Compare { .. }
+        | Request::Load(_)
+        | Request::Assemble(_)
+        | Request::Compile(_)
+        | Request::Help(_) => Ok(Vec::new(alloc)),
     }
 }
