@@ -127,7 +127,7 @@ def changed_counters():
     counter = (ROOT / "examples" / "counter.image").read_bytes()
     for file in sorted((ROOT / "crates" / "test_command" / "data").glob("*.cases")):
         source = file.read_text(encoding="utf-8")
-        said = r"^(?:\$ (?:counter \w+|explains (?:image|changed)) )?((?:\d+(?:=|:|->)\S+ ?)+)(?: *;.*| *=> fault.*)?$"
+        said = r"^(?:\$ (?:counter \w+|explains check changed) )?((?:\d+(?:=|:|->)\S+ ?)+)(?: *;.*| *=> fault.*)?$"
         for changes in re.findall(said, source, re.M):
             image = Image(bytearray(counter))
             try:

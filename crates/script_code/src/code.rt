@@ -503,6 +503,23 @@ impl Code {
         }
     }
 
+    /// In an else part: sets each register in use to 0 that has a number after the success part and
+    /// none here, so that both parts leave a number in it.
+    pub fn level_numbers(&mut self) {
+        let Some(part) = self.parts.last() else {
+            return;
+        };
+        let success = part.success;
+        for index in 0..16u8 {
+            let register = Register(index);
+            let is_number = matches!(success.known(register), Known::Number);
+            let is_number_here = matches!(self.known(register), Known::Number);
+            if is_number && !is_number_here && self.usage.is_in_use(register) {
+                self.small(register, 0);
+            }
+        }
+    }
+
     /// Ends the else part of the innermost part.
     pub fn end_part(&mut self) {
         if self.trouble.is_set() {

@@ -526,10 +526,28 @@ pub fn hold_flat(
     };
     let walk = emitter.walk(&place, true);
     close_noting(&mut emitter.code, &walk, code);
+    if number > 0 {
+        end_if_held(&mut emitter.code);
+    }
     bind_place(emitter, name, place);
     emitter.use_last_name();
     emitter.push_task(Task::EndScope(names));
     after_flat(emitter, tree, statement, &found, number, code)
+}
+
+/// Begins what is done if the places of a `use` so far were found or made: a register has no code.
+fn begin_if_held(code: &mut Code, failure: Register) {
+    let is_held = code.take();
+    code.is_zero(is_held, failure);
+    code.open_if(is_held);
+    code.usage.free(is_held)
+}
+
+/// Ends what is done then. The keys of the place that was looked up there are numbers in any case.
+fn end_if_held(code: &mut Code) {
+    code.begin_else();
+    code.level_numbers();
+    code.end_part()
 }
 
 /// Continues with the next place of a `use`, or its body.
@@ -544,6 +562,7 @@ fn after_flat(
     let next = number.saturating_add(1);
     match held_place(tree, found, next) {
         Some(held) => {
+            begin_if_held(&mut emitter.code, code);
             let hold = Task::HoldFlat(statement, next, code);
             emitter.then_place(held.place, hold)
         }

@@ -1,6 +1,6 @@
 //! Cases. A file of cases begins with words about it, and with the statements with which each case begins. A case is a line that
 //! begins with `=== `, and statements. A case with the title `each kind: ..` is played for each allocator and index, which are the
-//! words `ALG` and `INDEX` in its commands. A case with the title `random: ..` is played with the numbers 1 to 20 as `SEED`.
+//! words `ALG` and `INDEX` in its commands.
 
 /// What begins a case.
 pub(crate) const MARK: &str = "=== ";
@@ -17,7 +17,6 @@ pub(crate) struct Case<'a> {
 pub(crate) struct Turn {
     pub(crate) allocator: &'static str,
     pub(crate) index: &'static str,
-    pub(crate) seed: u32,
 }
 
 impl<'a> Case<'a> {
@@ -31,8 +30,6 @@ impl<'a> Case<'a> {
     pub(crate) fn turns(self) -> u32 {
         if self.title.starts_with("each kind: ") {
             4
-        } else if self.title.starts_with("random: ") {
-            20
         } else {
             1
         }
@@ -53,7 +50,6 @@ impl Turn {
         Turn {
             allocator: if number & 2 == 0 { "seq" } else { "best" },
             index: if number & 1 == 0 { "flat" } else { "tree" },
-            seed: number.saturating_add(1),
         }
     }
 }

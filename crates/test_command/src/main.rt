@@ -3,10 +3,7 @@
 #![tactic(auto)]
 
 mod cases;
-mod dumps;
-mod explained;
 mod files;
-mod images;
 mod player;
 mod printed;
 mod programs;

@@ -12,9 +12,11 @@
 //!     $ program FILE PROGRAM  the program with this name in the file of texts
 //!     $ increment FILE        the client of `examples/increment.text`, byte by byte
 //!     $ counter FILE ..       the counter's image, with these changes
-//!     $ image FILE IMAGE      the image with this name in `images.rt`
+//!     $ image FILE NAME       the image of the text with this name: its length, and changes of the counter's image
+//!     $ contents              the lines are such a text, for the images `changed`
+//!     $ changed FILE ..       the image of the last `contents`, with these changes; `;` begins a comment
+//!     $ damaged FILE N AT BYTE  the increment client, cut to N bytes, with this byte at AT
 //!     $ zeros FILE N          a file of zeros
-//!     $ random FILE SEED      the dump of an image made at random
 //!     $ copy NAME FILE        a file with the bytes of another one
 //!     $ dump NAME FILE        a file with the dump of an image
 //!     $ cut FILE N            cuts the file to this length
@@ -30,44 +32,36 @@
 //!     $ ends FILE             the file ends with the lines
 //!     $ has FILE ..           the file contains these bytes
 //!     $ count FILE N ..       the file contains these bytes this many times
-//!     $ repeats FILE N        the file is the lines, N times, with the numbers from 0 on in the place of `{}`
 //!     $ absent FILE           there is no such file
 //!     $ writes N              the number of writes so far
 //!     $ faults                each line: changes of the counter's image, ` => `, and the fault of `check`; `;` begins a comment
-//!     $ contents              the lines are changes for the images of `explains changed`
 //!     $ plays IMAGE INPUT ..  runs each program on the image, and prints the lines
-//!     $ explains ..           `explained.rt` tells which there are, and `programs.rt` statements about programs
+//!     $ explains COMMAND MAKE ..  the command `check`, `print`, `asm` or `verify` explains its failure with the lines: of the file that
+//!                                 `$ MAKE FILE ..` makes, from the lines before `---` if there are some
+//!
+//! and statements about programs, which `programs.rt` lists.
 
 use crate::cases::{MARK, Turn, first_statement};
-use crate::dumps::random_dump;
-use crate::explained::explains;
 use crate::files::Stored;
-use crate::images::image;
-use crate::printed::{Printed, Taken};
-use crate::programs::{is_about_programs, tells};
+use crate::printed::{ALL, Printed, Taken};
+use crate::programs::tells;
 use cli_host::FileProblem;
 use lezgauri::assemble;
 use std::alloc::{AllocError, Global};
 use std::str;
 use std::test::Fail;
-use support_data::{INCREMENT_FILE, counter_saved, counter_where, front};
-
-/// An output without limits.
-const ALL: Taken = Taken {
-    at_a_time: usize::MAX,
-    in_all: usize::MAX,
-};
+use support_data::{INCREMENT_FILE, change, counter, counter_saved, counter_where, front, write};
 
 /// Plays a case.
 #[derive(Drop)]
 pub(crate) struct Player<'a> {
     alloc: Global,
-    /// Texts of clients and programs by their names, each after a mark.
+    /// Texts of clients, programs and images by their names, each after a mark.
     texts: &'a str,
     turn: Turn,
     files: Stored,
     taken: Taken,
-    /// Changes of the images of `explains changed`.
+    /// The text of the images `changed`.
     contents: &'a str,
 }
 
@@ -124,7 +118,7 @@ impl<'a> Player<'a> {
         let (name, rest) = rest.split_once(' ').unwrap_or((rest, ""));
         match word {
             "contents" => self.contents = lines,
-            "explains" => return explains(self.alloc, name, rest, self.contents, lines),
+            "explains" => self.explains(name, rest, lines)?,
             "output" => {
                 self.taken = Taken {
                     at_a_time: amount(name)?,
@@ -135,14 +129,7 @@ impl<'a> Player<'a> {
             "link" => self.files.link(name, rest)?,
             "faults" => return finds(self.alloc, lines),
             "plays" => return self.plays(name, rest, lines),
-            _ if is_about_programs(word) => {
-                return tells(
-                    self.alloc,
-                    word,
-                    words.strip_prefix(word).unwrap_or(""),
-                    lines,
-                );
-            }
+            _ if tells(self.alloc, word, words, lines)? => {}
             _ => match self.made(word, name, rest, lines)? {
                 Some(bytes) => self.files.add(name, bytes.as_slice())?,
                 None => return self.holds(words, lines),
@@ -167,9 +154,10 @@ impl<'a> Player<'a> {
             "program" => Vec::from_slice(alloc, named(self.texts, rest)?.as_bytes())?,
             "increment" => Vec::from_slice(alloc, &INCREMENT_FILE)?,
             "counter" => counter_where(alloc, rest)?,
-            "image" => image(alloc, rest)?,
+            "image" => image_of(alloc, named(self.texts, rest)?, "")?,
+            "changed" => image_of(alloc, self.contents, rest)?,
+            "damaged" => damaged(alloc, rest)?,
             "zeros" => Vec::from_elem(alloc, 0, rest.parse()?)?,
-            "random" => Vec::from_slice(alloc, random_dump(alloc, self.turn.seed)?.as_bytes())?,
             "copy" => Vec::from_slice(alloc, self.files.get(rest))?,
             "cut" => Vec::from_slice(alloc, front(self.files.get(name), rest.parse()?))?,
             "dump" => {
@@ -178,6 +166,27 @@ impl<'a> Player<'a> {
             }
             _ => return Ok(None),
         }))
+    }
+
+    /// Tests how a command explains its failure on a file that is made.
+    fn explains(&mut self, command: &str, words: &str, lines: &str) -> Result<(), Fail> {
+        let (given, wanted) = lines.split_once("---\n").unwrap_or(("", lines));
+        let (word, rest) = words.split_once(' ').unwrap_or((words, ""));
+        let made = self.made(word, "it", rest, given)?.ok_or("no file")?;
+        self.files.add("it", made.as_slice())?;
+        let command = match command {
+            "check" => "segtool check it --explain",
+            "print" => "segtool print it --explain",
+            "asm" => "segtool asm it saved --explain",
+            _ => "segtool verify saved it --explain",
+        };
+        let words = words_of(self.alloc, self.turn, command)?;
+        let printed = Printed::by(self.alloc, words.as_slice(), &mut self.files, ALL);
+        let found = printed.explanation();
+        if found == wanted {
+            return Ok(());
+        }
+        Err(Fail::new(format_args!("{command} prints\n{found}\nand not\n{wanted}")))
     }
 
     /// Runs programs one after the other on an image, and tests what they print.
@@ -232,7 +241,6 @@ impl<'a> Player<'a> {
                 let (count, text) = rest.split_once(' ').ok_or("no text")?;
                 str::from_utf8(bytes)?.matches(text).count() == count.parse()?
             }
-            "repeats" => bytes == repeated(self.alloc, lines, rest.parse()?)?.as_bytes(),
             "absent" => !files.has(name),
             "writes" => files.writes == name.parse()?,
             _ => return Err(Fail::new(format_args!("no statement: {words}"))),
@@ -309,14 +317,26 @@ fn after_line(bytes: &[u8]) -> &[u8] {
     }
 }
 
-/// The lines once for each number below `times`, which is in the place of `{}`.
-fn repeated(alloc: Global, lines: &str, times: u32) -> Result<String, Fail> {
-    let (before, after) = lines.split_once("{}").ok_or("no place for the number")?;
-    let mut text = String::new(alloc);
-    for number in 0..times {
-        write!(text, "{before}{number}{after}")?;
-    }
-    Ok(text)
+/// The counter's image with the length that a text begins with, the changes that follow in the text, and these.
+fn image_of(alloc: Global, text: &str, changes: &str) -> Result<Vec<u8>, Fail> {
+    let (len, contents) = text.split_once('\n').ok_or("no length")?;
+    let changes = changes.split_once(';').map_or(changes, |parts| parts.0);
+    let mut image = counter(alloc)?;
+    image.resize(len.parse()?, 0)?;
+    let bytes = image.as_mut_slice();
+    change(bytes, contents).ok_or("no contents")?;
+    change(bytes, changes).ok_or("no changes")?;
+    Ok(image)
+}
+
+/// The increment client, cut to a length, with one other byte: the length, the byte's position and the byte are given.
+fn damaged(alloc: Global, words: &str) -> Result<Vec<u8>, Fail> {
+    let mut words = words.split_whitespace();
+    let mut word = || words.next().unwrap_or("");
+    let (len, at, byte) = (word().parse()?, word().parse()?, word().parse()?);
+    let mut file = INCREMENT_FILE;
+    write(&mut file, at, &[byte]);
+    Ok(Vec::from_slice(alloc, front(&file, len))?)
 }
 
 /// Tests the fault that `check` prints for each line's changes of the counter's image.

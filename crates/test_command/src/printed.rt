@@ -12,7 +12,7 @@ use support_data::Limited;
 pub(crate) struct Printed {
     pub(crate) status: u8,
     pub(crate) out: Vec<u8>,
-    err: Vec<u8>,
+    pub(crate) err: Vec<u8>,
 }
 
 /// How much an output takes.
@@ -21,6 +21,12 @@ pub(crate) struct Taken {
     pub(crate) at_a_time: usize,
     pub(crate) in_all: usize,
 }
+
+/// An output without limits.
+pub(crate) const ALL: Taken = Taken {
+    at_a_time: usize::MAX,
+    in_all: usize::MAX,
+};
 
 impl Printed {
     /// Runs a command line with an output that takes this much.
@@ -58,6 +64,12 @@ impl Printed {
     /// Whether the command failed with this line.
     pub(crate) fn is_fault(&self, line: &str) -> bool {
         self.status == 1 && self.err.as_slice().strip_suffix(b"\n") == Some(line.as_bytes())
+    }
+
+    /// The lines of the error output after the first.
+    pub(crate) fn explanation(&self) -> &str {
+        let told = str::from_utf8(self.err.as_slice()).unwrap_or("no text");
+        told.split_once('\n').map_or("", |parts| parts.1)
     }
 
     /// The output, or the error output of a command that failed.
