@@ -107,6 +107,7 @@ check texts checks/texts.py
 check english checks/english.py
 check picture bench/picture.py --check
 check boost checks/boost.sh "$(count 10000 100)"
+check dumps checks/dumps.py crates/segtool/out/segtool --count "$(count 10000 100)"
 check programs checks/programs.py random --count "$(count 10000 100)"
 check damaged_programs checks/programs.py damaged --count "$(count 100000 1000)"
 check bases checks/bases.sh "$(count 2000 50)"

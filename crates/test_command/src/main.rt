@@ -3,7 +3,6 @@
 #![tactic(auto)]
 
 mod cases;
-mod files;
 mod player;
 mod printed;
 mod programs;

@@ -42,7 +42,6 @@
 //! and statements about programs, which `programs.rt` lists.
 
 use crate::cases::{MARK, Turn, first_statement};
-use crate::files::Stored;
 use crate::printed::{ALL, Printed, Taken};
 use crate::programs::tells;
 use cli_host::FileProblem;
@@ -50,7 +49,9 @@ use lezgauri::assemble;
 use std::alloc::{AllocError, Global};
 use std::str;
 use std::test::Fail;
-use support_data::{INCREMENT_FILE, change, counter, counter_saved, counter_where, front, write};
+use support_data::{
+    INCREMENT_FILE, Stored, change, counter, counter_saved, counter_where, front, write,
+};
 
 /// Plays a case.
 #[derive(Drop)]
@@ -129,13 +130,22 @@ impl<'a> Player<'a> {
             "link" => self.files.link(name, rest)?,
             "faults" => return finds(self.alloc, lines),
             "plays" => return self.plays(name, rest, lines),
-            _ if tells(self.alloc, word, words, lines)? => {}
-            _ => match self.made(word, name, rest, lines)? {
-                Some(bytes) => self.files.add(name, bytes.as_slice())?,
-                None => return self.holds(words, lines),
-            },
+            _ => return self.makes(words, lines),
         }
         Ok(())
+    }
+
+    /// Follows a statement that makes a file, or tests something.
+    fn makes(&mut self, words: &str, lines: &str) -> Result<(), Fail> {
+        let (word, rest) = words.split_once(' ').unwrap_or((words, ""));
+        let (name, rest) = rest.split_once(' ').unwrap_or((rest, ""));
+        if tells(self.alloc, word, words, lines)? {
+            return Ok(());
+        }
+        match self.made(word, name, rest, lines)? {
+            Some(bytes) => Ok(self.files.add(name, bytes.as_slice())?),
+            None => self.holds(words, lines),
+        }
     }
 
     /// The bytes of a file that a statement makes, if it makes one.
@@ -322,7 +332,8 @@ fn image_of(alloc: Global, text: &str, changes: &str) -> Result<Vec<u8>, Fail> {
     let (len, contents) = text.split_once('\n').ok_or("no length")?;
     let changes = changes.split_once(';').map_or(changes, |parts| parts.0);
     let mut image = counter(alloc)?;
-    image.resize(len.parse()?, 0)?;
+    let len = len.parse()?;
+    image.resize(len, 0)?;
     let bytes = image.as_mut_slice();
     change(bytes, contents).ok_or("no contents")?;
     change(bytes, changes).ok_or("no changes")?;

@@ -1,11 +1,10 @@
 //! What a command prints.
 
-use crate::files::Stored;
 use cli_commands::command;
 use lezgauri::Through;
 use std::alloc::Global;
 use std::str;
-use support_data::Limited;
+use support_data::{Limited, Stored};
 
 /// The outputs of a command, and its status.
 #[derive(Drop)]

@@ -6,12 +6,12 @@
 //!     $ told          all that is told, as it is printed for a file `p.lez`
 //!     $ nested N A B  the errors in the words of `let x = ` and an expression: the first A bytes N times, the middle, the last B bytes N times
 
-use crate::files::Stored;
 use crate::printed::{ALL, Printed};
 use std::alloc::{AllocError, Global};
 use std::fmt::Write;
 use std::str;
 use std::test::Fail;
+use support_data::Stored;
 
 /// Tests what is told of a program, if this is the first word of a statement about programs.
 pub(crate) fn tells(alloc: Global, word: &str, words: &str, lines: &str) -> Result<bool, Fail> {

@@ -1,26 +1,26 @@
 //! Files in memory.
 
+use crate::images::front;
 use cli_host::{FileFault, FileProblem, Files};
 use std::alloc::{AllocError, Global};
-use support_data::front;
 
 /// Files in memory. A command can write those that there are, and make `saved` and `copy`.
 #[derive(Drop)]
-pub(crate) struct Stored {
+pub struct Stored {
     files: Vec<(String, Vec<u8>)>,
     /// Other names of files, each with the file's own name.
     links: Vec<(String, String)>,
     /// Files that can't be read or written, and why.
     problems: Vec<(String, FileProblem)>,
     /// The read and the write that fail, counted from 1.
-    pub(crate) failing_read: u32,
-    pub(crate) failing_write: u32,
+    pub failing_read: u32,
+    pub failing_write: u32,
     reads: u32,
-    pub(crate) writes: u32,
+    pub writes: u32,
 }
 
 impl Stored {
-    pub(crate) fn new(alloc: Global) -> Stored {
+    pub fn new(alloc: Global) -> Stored {
         Stored {
             files: Vec::new(alloc),
             links: Vec::new(alloc),
@@ -33,7 +33,7 @@ impl Stored {
     }
 
     /// Adds a file, or replaces the one with this name.
-    pub(crate) fn add(&mut self, name: &str, bytes: &[u8]) -> Result<(), AllocError> {
+    pub fn add(&mut self, name: &str, bytes: &[u8]) -> Result<(), AllocError> {
         let alloc = *self.files.allocator();
         let name = String::from_str(alloc, name)?;
         self.files.push((name, Vec::from_slice(alloc, bytes)?))?;
@@ -41,7 +41,7 @@ impl Stored {
     }
 
     /// Adds another name of a file.
-    pub(crate) fn link(&mut self, name: &str, file: &str) -> Result<(), AllocError> {
+    pub fn link(&mut self, name: &str, file: &str) -> Result<(), AllocError> {
         let alloc = *self.files.allocator();
         let link = (
             String::from_str(alloc, name)?,
@@ -52,14 +52,14 @@ impl Stored {
     }
 
     /// Makes a file one that can't be read or written.
-    pub(crate) fn fail(&mut self, name: &str, problem: FileProblem) -> Result<(), AllocError> {
+    pub fn fail(&mut self, name: &str, problem: FileProblem) -> Result<(), AllocError> {
         let name = String::from_str(*self.files.allocator(), name)?;
         self.problems.push((name, problem))?;
         Ok(())
     }
 
     /// The bytes that were last written to a file. Empty if there is no such file.
-    pub(crate) fn get(&self, name: &str) -> &[u8] {
+    pub fn get(&self, name: &str) -> &[u8] {
         for (other, bytes) in self.files.iter().rev() {
             if other.as_str() == name {
                 return bytes.as_slice();
@@ -68,7 +68,7 @@ impl Stored {
         &[]
     }
 
-    pub(crate) fn has(&self, name: &str) -> bool {
+    pub fn has(&self, name: &str) -> bool {
         self.files.iter().any(|file| file.0.as_str() == name)
     }
 
