@@ -1,6 +1,7 @@
 use crate::extent::Extent;
 use std::alloc::{AllocError, Global};
 use std::fmt::Display;
+use std::io::Write;
 
 /// The deepest level with indentation. A deeper line begins with its level instead, so that the length of all lines is
 /// proportional to their contents.
@@ -53,10 +54,7 @@ impl IndentedText {
 
     /// What `write!` calls.
     pub(crate) fn write_fmt<D: Display + Drop>(&mut self, words: D) {
-        match format!(in self.alloc; "{words}") {
-            Ok(words) => self.add(words.as_bytes()),
-            Err(_) => self.is_refused = true,
-        }
+        self.is_refused |= write!(self.text, "{words}").is_err();
     }
 
     /// Adds a word and a number.
@@ -103,11 +101,9 @@ impl IndentedText {
         self.add(&[b'\\', DIGITS[high], DIGITS[low]]);
     }
 
-    /// Adds a byte `len` times.
-    pub(crate) fn add_bar(&mut self, len: u32, byte: u8) {
-        for _ in 0..len {
-            self.add(&[byte]);
-        }
+    /// Adds the first `len` bytes of a bar, or all.
+    pub(crate) fn add_bar(&mut self, bar: &[u8], len: u32) {
+        self.add(bar.get(..len as usize).unwrap_or(bar));
     }
 
     pub(crate) fn end(&mut self) {

@@ -11,6 +11,10 @@ use std::alloc::{AllocError, Global};
 /// The length of the longest bar.
 const LONGEST_BAR: u32 = 32;
 
+/// The longest bars, of an allocated block and of a free one.
+static ALLOCATED: [u8; LONGEST_BAR as usize] = [b'#'; LONGEST_BAR as usize];
+static FREE: [u8; LONGEST_BAR as usize] = [b'.'; LONGEST_BAR as usize];
+
 /// A line for each block of the heap, in ascending order of position: its position in bytes, its size in units of 16 bytes, its
 /// purpose, the object that it belongs to, and a bar of proportional length.
 pub fn heap_lines<F: Fit>(
@@ -39,10 +43,8 @@ fn most_units(owned: &[OwnedBlock]) -> u32 {
 fn add_block(lines: &mut IndentedText, it: &OwnedBlock, roots: &[Root], largest: u32) {
     let Block { at, units } = it.block;
     write!(lines, "{at} {units} ");
-    lines.add_bar(
-        bar(units, largest),
-        if it.tag.is_some() { b'#' } else { b'.' },
-    );
+    let longest = if it.tag.is_some() { &ALLOCATED } else { &FREE };
+    lines.add_bar(longest, bar(units, largest));
     lines.add(b" ");
     lines.add(Purpose::of(it).word().as_bytes());
     if let Some(root) = root_of(it, roots) {

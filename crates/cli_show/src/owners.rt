@@ -2,7 +2,7 @@ use crate::blocks::{blocks, live_tag};
 use crate::extent::Extent;
 use crate::roots::Root;
 use crate::walk::{Met, ValueWalk, most_turns};
-use seg_block::{Block, Fit, Tag};
+use seg_block::{Block, Fit, HEAP_START, Tag};
 use seg_manager::{Heap, Place, Type, Window};
 use std::alloc::{AllocError, Global};
 
@@ -16,17 +16,25 @@ pub(crate) struct OwnedBlock {
     pub(crate) root: Option<usize>,
 }
 
+/// How many bytes of the heap share an entry of the table of blocks.
+const PAGE: u32 = 1024;
+
 /// The blocks of a segment's heap in ascending order of their positions, each with the object that it belongs to.
 pub(crate) fn owned_blocks<F: Fit>(
     alloc: Global,
     heap: &Heap<F, Global>,
     roots: &[Root],
 ) -> Result<Vec<OwnedBlock>, AllocError> {
-    let mut owned = unowned_blocks(alloc, heap.window())?;
+    let blocks = unowned_blocks(alloc, heap.window())?;
+    let mut claims = Claims {
+        before: blocks_before(alloc, heap.window(), blocks.as_slice())?,
+        blocks,
+    };
     for (index, root) in roots.iter().enumerate() {
-        claim_object(alloc, heap, owned.as_mut_slice(), root, index)?;
+        claim_object(alloc, heap, &mut claims, root, index)?;
     }
-    Ok(owned)
+    let Claims { blocks, .. } = claims;
+    Ok(blocks)
 }
 
 /// The blocks, each without an object.
@@ -42,17 +50,63 @@ fn unowned_blocks(alloc: Global, w: &Window<Global>) -> Result<Vec<OwnedBlock>, 
     Ok(unowned)
 }
 
+/// How many blocks begin before each page of the heap, and how many there are.
+fn blocks_before(
+    alloc: Global,
+    w: &Window<Global>,
+    blocks: &[OwnedBlock],
+) -> Result<Vec<usize>, AllocError> {
+    let mut before = Vec::new(alloc);
+    for (number, it) in blocks.iter().enumerate() {
+        before.resize(page_of(it.block.at).saturating_add(1).max(before.len()), number)?;
+    }
+    before.resize(page_of(w.len()).saturating_add(2), blocks.len())?;
+    Ok(before)
+}
+
+/// The page of the heap that contains a position.
+fn page_of(at: u32) -> usize {
+    (at.saturating_sub(HEAP_START) / PAGE) as usize
+}
+
+/// Blocks that objects claim.
+#[derive(Drop)]
+struct Claims {
+    blocks: Vec<OwnedBlock>,
+    /// How many of the blocks begin before each page, and at last how many there are.
+    before: Vec<usize>,
+}
+
+impl Claims {
+    /// Assigns to an object the block that contains a position, if there is one.
+    fn claim(&mut self, at: u32, index: usize) {
+        let page = page_of(at);
+        let first = self.before_page(page).saturating_sub(1);
+        let end = self.before_page(page.saturating_add(1));
+        let near = self.blocks.get(first..end).unwrap_or_default();
+        if let Some(found) = block_around(near, at) {
+            if let Some(block) = self.blocks.get_mut(first.saturating_add(found)) {
+                block.root = Some(index);
+            }
+        }
+    }
+
+    fn before_page(&self, page: usize) -> usize {
+        self.before.get(page).copied().unwrap_or(0)
+    }
+}
+
 /// Assigns blocks to an object: its own, and those of all values inside it.
 fn claim_object<F: Fit>(
     alloc: Global,
     heap: &Heap<F, Global>,
-    owned: &mut [OwnedBlock],
+    claims: &mut Claims,
     root: &Root,
     index: usize,
 ) -> Result<(), AllocError> {
     let size = heap.types().size(root.first.type_id);
     for value in 0..root.count {
-        claim_value(alloc, heap, owned, root.value(value, size), index)?;
+        claim_value(alloc, heap, claims, root.value(value, size), index)?;
     }
     Ok(())
 }
@@ -61,15 +115,15 @@ fn claim_object<F: Fit>(
 fn claim_value<F: Fit>(
     alloc: Global,
     heap: &Heap<F, Global>,
-    owned: &mut [OwnedBlock],
+    claims: &mut Claims,
     value: Place,
     index: usize,
 ) -> Result<(), AllocError> {
-    claim_blocks(heap, owned, value, index);
+    claim_blocks(heap, claims, value, index);
     let mut walk = ValueWalk::new(alloc, heap, value, Extent::All)?;
     for _ in 0..most_turns(heap.window().len()) {
         match walk.next(heap)? {
-            Some(Met::Part { part, .. }) => claim_blocks(heap, owned, part.place, index),
+            Some(Met::Part { part, .. }) => claim_blocks(heap, claims, part.place, index),
             Some(Met::End { .. }) => {}
             None => break,
         }
@@ -78,16 +132,11 @@ fn claim_value<F: Fit>(
 }
 
 /// Assigns to an object the block that contains a value, and the value's buffer.
-fn claim_blocks<F: Fit>(
-    heap: &Heap<F, Global>,
-    owned: &mut [OwnedBlock],
-    value: Place,
-    index: usize,
-) {
-    claim(owned, value.at, index);
+fn claim_blocks<F: Fit>(heap: &Heap<F, Global>, claims: &mut Claims, value: Place, index: usize) {
+    claims.claim(value.at, index);
     match heap.types().kind(value.type_id) {
         Some(Type::Str | Type::Vec(_) | Type::FlatMap(_)) => {
-            claim(owned, heap.start(value.at), index);
+            claims.claim(heap.start(value.at), index);
         }
         // nodes and objects are assigned when the walk reaches the values in them
         Some(Type::List(_) | Type::Map(_) | Type::Own(_)) => {}
@@ -95,18 +144,9 @@ fn claim_blocks<F: Fit>(
     }
 }
 
-/// Assigns to an object the block that contains a position, if there is one.
-fn claim(owned: &mut [OwnedBlock], at: u32, index: usize) {
-    if let Some(found) = block_around(owned, at) {
-        if let Some(block) = owned.get_mut(found) {
-            block.root = Some(index);
-        }
-    }
-}
-
 /// The last block that begins at or before a position.
-fn block_around(owned: &[OwnedBlock], at: u32) -> Option<usize> {
-    match owned.binary_search_by(|it| it.block.at.cmp(&at)) {
+fn block_around(blocks: &[OwnedBlock], at: u32) -> Option<usize> {
+    match blocks.binary_search_by(|it| it.block.at.cmp(&at)) {
         Ok(found) => Some(found),
         Err(following) => following.checked_sub(1),
     }

@@ -86,6 +86,7 @@ impl<A: Allocator> Claims<A> {
 
     /// Adds the block at a position, which wasn't added before. There are fewer blocks than units, so that no count of
     /// them wraps.
+    #[inline(always)]
     pub(crate) fn add(&mut self, block: BlockAt, is_live: bool)
         ensures added { IsUnit self.old.units block → times block self.old.unclaimed ≡ 0 →
             times block self.old.free ≡ 0 → times block self.old.allocated ≡ 0 →
@@ -101,6 +102,7 @@ impl<A: Allocator> Claims<A> {
         }
     }
 
+    #[inline(always)]
     fn set_mark(&mut self, block: BlockAt, new: Mark)
         ensures own { IsUnit self.old.units block → IsMarked self.new block new }
         ensures live { IsMarked self.old block Mark.Live → IsMarked self.new block new }
@@ -191,17 +193,13 @@ impl<A: Allocator> Claims<A> {
         }
     }
 
-    /// Reads the first bytes of the nodes two links below the node that a pointer points to. The processor fetches them
-    /// from memory together, and they are in its cache when the walk reaches them. Without these reads, the walk would
-    /// wait for one node after the other.
+    /// Reads the tags of the nodes two links below a node. The processor fetches them from memory together, and they are in its
+    /// cache when the walk reaches them. Without these reads, the walk would wait for one node after the other.
     #[inline(always)]
-    pub(crate) fn look_ahead(&mut self, bytes: View, pointer: u32)
+    pub(crate) fn look_ahead(&mut self, bytes: View, node: PayloadAt)
         ensures { self.new ≡ self.old }
     {
-        self.ahead = match bytes.target(pointer as usize) {
-            Some(node) => below(bytes, node) ^ below(bytes, node.wrapping_add(4)),
-            None => 0,
-        };
+        self.ahead = tags_below(bytes, node) ^ tags_below(bytes, node.wrapping_add(4));
     }
 
     /// Puts a claimed block in the queue. What owns it now owns its values.
@@ -393,18 +391,18 @@ fn one_less(left: Option<u32>) -> Option<u32>
     }
 }
 
-/// What was read of the two children of the node that a pointer points to.
+/// The tags of the two children of the node that a pointer points to.
 #[inline(always)]
-fn below(bytes: View, pointer: u32) -> u32 {
+fn tags_below(bytes: View, pointer: u32) -> u32 {
     match bytes.target(pointer as usize) {
-        Some(node) => first_bytes(bytes, node) ^ first_bytes(bytes, node.wrapping_add(4)),
+        Some(node) => tag_of(bytes, node) ^ tag_of(bytes, node.wrapping_add(4)),
         None => 0,
     }
 }
 
-/// What was read of the node that a pointer points to: its tag and its key, since it may lie in two lines of the cache.
+/// The tag of the node that a pointer points to.
 #[inline(always)]
-fn first_bytes(bytes: View, pointer: u32) -> u32 {
+fn tag_of(bytes: View, pointer: u32) -> u32 {
     let node = bytes.get32(pointer as usize).wrapping_add(pointer);
-    bytes.get32(node.wrapping_sub(8) as usize) ^ bytes.get32(node.wrapping_add(16) as usize)
+    bytes.get32(node.wrapping_sub(8) as usize)
 }

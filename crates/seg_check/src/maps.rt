@@ -70,8 +70,8 @@ impl TypedImage<'_> {
         while let Some(visit) = walk.next().map_err(ContentFault::BadValue)? {
             match visit {
                 Visit::Enter(pointer) => {
-                    owner.claim(claims, pointer, 1)?;
-                    claims.look_ahead(bytes, pointer);
+                    let node = owner.claim(claims, pointer, 1)?;
+                    claims.look_ahead(bytes, node);
                 }
                 Visit::Pass(node) => keys.add(key(bytes, content.entry.value_at(node, 0))),
             }
