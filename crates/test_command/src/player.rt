@@ -342,9 +342,9 @@ fn image_of(alloc: Global, text: &str, changes: &str) -> Result<Vec<u8>, Fail> {
 
 /// The increment client, cut to a length, with one other byte: the length, the byte's position and the byte are given.
 fn damaged(alloc: Global, words: &str) -> Result<Vec<u8>, Fail> {
-    let mut words = words.split_whitespace();
-    let mut word = || words.next().unwrap_or("");
-    let (len, at, byte) = (word().parse()?, word().parse()?, word().parse()?);
+    let (len, changed) = words.split_once(' ').ok_or("no position")?;
+    let (at, byte) = changed.split_once(' ').ok_or("no byte")?;
+    let (len, at, byte) = (len.parse()?, at.parse()?, byte.parse()?);
     let mut file = INCREMENT_FILE;
     write(&mut file, at, &[byte]);
     Ok(Vec::from_slice(alloc, front(&file, len))?)
