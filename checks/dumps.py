@@ -3,23 +3,27 @@
 
     dumps.py SEGTOOL [--count N] [--seed S]
 
-A dump has a segment of any allocator and index, frozen objects that share one another, named objects and arrays, and unique
-objects, with values of each kind of type, nested."""
+A dump has a segment of any allocator and index, frozen numbers that values share, named objects and arrays, and unique objects,
+with values of each kind of type, nested."""
 import argparse
+import difflib
 import random
 import subprocess
 import sys
 import tempfile
 from pathlib import Path
 
-# each type is made of types before it, and `shared` and `own` also of themselves
+# each type is made of types before it
 TYPES = ["i64", "str", "vec t1", "map t0", "own t3", "struct t0 t2 t4", "flat_map t5", "shared t0", "list t7", "vec t8", "own t6"]
-BYTES = {0: "\\00", 34: "\\22", 92: "\\5c"}
+BACKSLASH = 92
+# the type of the list that points to all frozen objects, since one without a cell that points to it would go
+ALL = 8
 
 
 def text_of(rng):
     """Up to 20 random bytes, as dump writes them."""
-    return "".join(chr(byte) if 32 <= byte < 127 and byte not in BYTES else f"\\{byte:02x}" for byte in rng.randbytes(rng.randrange(20)))
+    bytes_ = rng.randbytes(rng.randrange(20))
+    return "".join(chr(byte) if 32 <= byte < 127 and byte != BACKSLASH else f"\\{byte:02x}" for byte in bytes_)
 
 
 def lines_of(rng, number, frozen):
@@ -56,6 +60,7 @@ def dump_of(rng):
     frozen = rng.randrange(4)
     for number in range(frozen):
         lines += [f"frozen {number} t0", "  " + lines_of(rng, 0, 0)[0]]
+    lines += [f"name all t{ALL}", "  list", *(f"    frozen {number}" for number in range(frozen)), "  end"]
     for name in sorted({f"n{rng.randrange(30)}" for _ in range(rng.randrange(9))}):
         kind, count = rng.randrange(len(TYPES)), rng.choice([1, 1, 1, rng.randrange(1, 6)])
         lines.append(f"name {name} t{kind}" + (f" {count}" if count > 1 else ""))
@@ -87,8 +92,10 @@ def main():
             run(asked.segtool, "load", str(text), str(image))
             if run(asked.segtool, "check", str(image)) != "ok\n":
                 raise SystemExit(f"seed {seed}: the image isn't sound")
-            if run(asked.segtool, "dump", str(image)) != text.read_text(encoding="ascii"):
-                raise SystemExit(f"seed {seed}: another dump")
+            dumped = run(asked.segtool, "dump", str(image)).splitlines()
+            if dumped != lines:
+                differences = difflib.unified_diff(lines, dumped, "text", "dump", lineterm="")
+                raise SystemExit("\n".join([f"\nseed {seed}: another dump", *differences]))
             image.unlink()
             print(f"\r{seed - asked.seed + 1} of {asked.count} dumps", end="", file=sys.stderr)
     print(f"\r{asked.count} dumps, each the same after it was loaded", file=sys.stderr)
