@@ -13,6 +13,7 @@ const LONGEST_BAR: u32 = 32;
 
 /// The longest bars, of an allocated block and of a free one.
 static ALLOCATED: [u8; LONGEST_BAR as usize] = [b'#'; LONGEST_BAR as usize];
+
 static FREE: [u8; LONGEST_BAR as usize] = [b'.'; LONGEST_BAR as usize];
 
 /// A line for each block of the heap, in ascending order of position: its position in bytes, its size in units of 16 bytes, its

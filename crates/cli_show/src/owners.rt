@@ -58,7 +58,10 @@ fn blocks_before(
 ) -> Result<Vec<usize>, AllocError> {
     let mut before = Vec::new(alloc);
     for (number, it) in blocks.iter().enumerate() {
-        before.resize(page_of(it.block.at).saturating_add(1).max(before.len()), number)?;
+        before.resize(
+            page_of(it.block.at).saturating_add(1).max(before.len()),
+            number,
+        )?;
     }
     before.resize(page_of(w.len()).saturating_add(2), blocks.len())?;
     Ok(before)
