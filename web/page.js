@@ -530,7 +530,7 @@ class Page {
   #showFlaw(refusal) {
     const line = this.#isProgram ? null : flawLine(this.#editor.value, refusal);
     const message = flawInWords(refusal.explanation);
-    this.#showProblems(line === null ? [] : [{ line, column: 1, kind: "error", message, width: 0, hint: "" }]);
+    this.#showProblems(line === null ? [] : [wholeLine(this.#editor.value, line, message)]);
     const place = line === null ? "" : `Line ${line}: `;
     this.#showRejection(`${place}${refusal.line}. ${message}`, refusal.explanation);
   }
@@ -750,6 +750,13 @@ function flawLine(text, { number, operands: [operand], explanation }) {
   }
   const told = /^instruction \d+, line (\d+)/.exec(explanation[0] ?? "");
   return told === null ? null : Number(told[1]);
+}
+
+/** An error that is about all of a line. */
+function wholeLine(text, line, message) {
+  const words = text.split("\n")[line - 1];
+  const start = words.length - words.trimStart().length;
+  return { line, column: start + 1, kind: "error", message, width: words.trim().length, hint: "" };
 }
 
 function problemInWords({ line, column, kind, message, hint }) {
