@@ -754,7 +754,7 @@ function flawLine(text, { number, operands: [operand], explanation }) {
 
 /** An error that is about all of a line. */
 function wholeLine(text, line, message) {
-  const words = text.split("\n")[line - 1];
+  const words = text.split("\n")[line - 1] ?? "";
   const start = words.length - words.trimStart().length;
   return { line, column: start + 1, kind: "error", message, width: words.trim().length, hint: "" };
 }
