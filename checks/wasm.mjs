@@ -1,18 +1,21 @@
 // Compares the page's module with segtool: node wasm.mjs SEGTOOL MODULE IMAGES WORK RANDOM
 //
-// On each image of the folder IMAGES, on the examples, and on RANDOM damaged images and texts, the module has to give the bytes and
-// the status that segtool gives with --explain. What the page's scripts read from them is compared too. WORK is a folder for files.
+// On each image of the folder IMAGES, on the examples, on the programs of the tests, and on RANDOM damaged images, texts and programs,
+// the module has to give the bytes and the status that segtool gives with --explain. What the page's scripts read from them is compared
+// too. WORK is a folder for files.
 import assert from "node:assert/strict";
 import { spawnSync } from "node:child_process";
 import { existsSync, readFileSync, readdirSync, rmSync, writeFileSync } from "node:fs";
 import { ImageBytes, UNIT } from "../web/image.js";
-import { ABSENT, STOPPED, Lezgauri, hasMemory64 } from "../web/lezgauri.js";
-import { decoded, itemsOf, linesOf, loopBounds, ownersOf, refusalOf, traceOf, valuesOf } from "../web/printed.js";
+import { ABSENT, STOPPED, WRONG, Lezgauri, hasMemory64 } from "../web/lezgauri.js";
+import { costsOf, decoded, linesOf, ownersOf, problemsOf, refusalOf, traceOf, valuesOf } from "../web/printed.js";
 
 const [segtool, modulePath, imagesFolder, work, randomCount] = process.argv.slice(2);
 const examples = new URL("../examples/", import.meta.url);
+const tests = new URL("../crates/test_command/data/", import.meta.url);
 const module = new Lezgauri(new WebAssembly.Module(readFileSync(modulePath)));
 const nothing = new Uint8Array();
+const encoder = new TextEncoder();
 let compared = 0;
 
 /** Random numbers, the same in each run. */
@@ -42,16 +45,17 @@ function command(...words) {
   return { status: ran.status, out: ran.stdout, err: ran.stderr, file };
 }
 
-/** Compares an answer with what segtool prints and writes. */
-function same(answer, words, label) {
+/** Compares an answer with what segtool prints and writes. On its error output `warnings` come first. */
+function same(answer, words, label, warnings = "") {
   const { status, out, err, file } = command(...words, "--explain");
   const place = `${label}: segtool ${words.join(" ")}`;
   const isDone = answer.status === 0;
   assert.equal(status, isDone ? 0 : 1, place);
   if (answer.status !== ABSENT) {
-    assert.equal(decoded(answer.text), decoded(isDone ? out : err), place);
+    assert.equal(decoded(out), isDone ? decoded(answer.text) : "", place);
+    assert.equal(decoded(err), isDone ? warnings : warnings + decoded(answer.text), place);
   }
-  if (!isDone && answer.status !== ABSENT) {
+  if (!isDone && answer.status !== ABSENT && answer.status !== WRONG) {
     assert.equal(refusalOf(decoded(answer.text)).number, answer.status, place);
   }
   if (file !== null || answer.file !== null) {
@@ -123,52 +127,100 @@ function countOf(values) {
   return values.reduce((count, { parts }) => count + 1 + countOf(parts), 0);
 }
 
-/** Compares all answers on a text, and on its client on an image. */
-function compareText(text, image, input, label) {
-  put("text", text);
-  put("image", image);
-  put("input", input);
-  const assembled = module.assemble(text);
+/** Compares all answers on an assembler text, and on its client on an image. */
+function compareText(bytes, image, input, label) {
+  put("text", bytes);
+  const assembled = module.assemble(bytes);
   same(assembled, ["asm", "text", "OUT"], label);
+  compareSource({ name: "source.text", bytes }, image, input, label);
   if (assembled.status === 0) {
-    compareClient(assembled.file, image, input, label, decoded(text));
+    compareClient(assembled.file, image, input, label);
   }
 }
 
-function compareClient(client, image, input, label, text = null) {
-  put("client", client);
-  same(module.print(client), ["print", "client"], label);
-  const verified = module.verify(image, client);
-  same(verified, ["verify", "image", "client"], label);
-  if (module.check(image).status === 0) {
-    same(module.verify(image.slice(0, 704), client, { checked: true }), ["verify", "image", "client"], label);
+function compareClient(bytes, image, input, label) {
+  put("client", bytes);
+  same(module.print(bytes), ["print", "client"], label);
+  compareSource({ name: "client", bytes }, image, input, label);
+}
+
+function compareProgram(bytes, image, input, label) {
+  compareSource({ name: "program.lez", bytes }, image, input, label);
+}
+
+/** Compares all answers on a client, a program or a text on an image. */
+function compareSource(source, image, input, label) {
+  const { name } = source;
+  put(name, source.bytes);
+  put("image", image);
+  put("input", input);
+  const isSound = module.check(image).status === 0;
+  const warnings = name.endsWith(".lez") ? compareCompiled(source, image, isSound, label) : "";
+  const verified = module.verify(image, source);
+  same(verified, ["verify", "image", name], label, warnings);
+  if (isSound) {
+    assert.deepEqual(module.verify(image.slice(0, 704), source, { checked: true }), verified, label);
   }
-  if (text !== null && verified.status === 0) {
-    assert.equal(decoded(verified.text), `steps ${loopBounds(text).whole}\n`, label);
+  if (verified.status === 0) {
+    compareCosts(decoded(verified.text), label);
   }
-  same(module.run(image, client, input), ["run", "image", "OUT", "client", "--input", "input"], label);
-  const traced = module.trace(image, client, input, 0, 1_000_000);
-  same(traced, ["trace", "image", "client", "--input", "input"], label);
+  same(module.run(image, source, input), ["run", "image", "OUT", name, "--input", "input"], label, warnings);
+  const traced = module.trace(image, source, input, 0, 1_000_000);
+  same(traced, ["trace", "image", name, "--input", "input"], label, warnings);
   if (traced.status === 0) {
-    compareSteps(client, image, input, decoded(traced.text), label);
+    compareSteps(source, image, input, decoded(traced.text), label);
+  }
+}
+
+/** Compares the client of a program for an image and for none, or its errors. Returns its warnings for the image. */
+function compareCompiled(program, image, isSound, label) {
+  const { name } = program;
+  sameCompiled(module.compile(program, nothing), ["compile", name, "OUT"], label);
+  const compiled = module.compile(program, image);
+  sameCompiled(compiled, ["compile", name, "OUT", "--on", "image"], label);
+  if (isSound) {
+    assert.deepEqual(module.compile(program, image.slice(0, 704), { checked: true }), compiled, label);
+  }
+  return compiled.status === 0 ? decoded(compiled.text) : "";
+}
+
+function sameCompiled(answer, words, label) {
+  const text = decoded(answer.text);
+  if (answer.status === 0) {
+    same({ ...answer, text: nothing }, words, label, text);
+  } else {
+    same(answer, words, label);
+  }
+  if (answer.status === 0 || answer.status === WRONG) {
+    const heads = linesOf(text).filter((line) => /^program\.lez:\d+:\d+: (error|warning): /.test(line));
+    assert.equal(problemsOf(text).length, heads.length, label);
+  }
+}
+
+/** The steps of all lines are those of the client. */
+function compareCosts(text, label) {
+  const { whole, steps } = costsOf(text);
+  assert.ok(text.startsWith(`steps ${whole}\n`), label);
+  if (steps.size > 0) {
+    assert.equal([...steps.values()].reduce((sum, it) => sum + it, 0n), whole, label);
   }
 }
 
 /** Compares parts of a trace with the whole, and the image at its end with that of a run. */
-function compareSteps(client, image, input, whole, label) {
+function compareSteps(source, image, input, whole, label) {
   const count = traceOf(whole).length;
   const middle = Math.floor(count / 2);
-  const begun = module.trace(image, client, input, 0, middle);
+  const begun = module.trace(image, source, input, 0, middle);
   assert.equal(begun.status, middle < count ? STOPPED : 0, label);
-  const rest = module.trace(image, client, input, middle, count + 1);
+  const rest = module.trace(image, source, input, middle, count + 1);
   assert.equal(decoded(begun.text) + decoded(rest.text), whole, label);
-  const ran = module.run(image, client, input);
-  const last = module.imageAfter(image, client, input, count);
+  const ran = module.run(image, source, input);
+  const last = module.imageAfter(image, source, input, count);
   // objects that registers own at the end are destroyed only by the run
   if (module.check(last.file).status === 0) {
     assert.deepEqual(last.file, ran.file, label);
   }
-  assert.deepEqual(module.imageAfter(image, client, input, count + 1000).file, last.file, label);
+  assert.deepEqual(module.imageAfter(image, source, input, count + 1000).file, last.file, label);
 }
 
 function created(size, allocator, index) {
@@ -178,22 +230,23 @@ function created(size, allocator, index) {
   return answer.file;
 }
 
-const TEXTS = ["cache", "configure", "settings", "count", "increment", "publish", "notice"];
+const EXAMPLES = ["cache", "configure", "settings", "count", "increment", "publish", "notice"];
 
 /** Images on which each example ran. */
 function compareExamples() {
   const images = [read("counter.image")];
-  const input = new TextEncoder().encode("abcada");
+  const input = encoder.encode("abcada");
   for (const allocator of [0, 1]) {
     for (const index of [0, 1]) {
-      for (const texts of [["cache"], ["configure", "settings"], ["publish", "notice"], ["count"]]) {
+      for (const names of [["cache"], ["configure", "settings"], ["publish", "notice"], ["count"]]) {
         let image = created(4096, allocator, index);
-        for (const name of texts) {
-          const text = read(`${name}.text`);
-          compareText(text, image, input, name);
-          image = module.run(image, module.assemble(text).file, input).file;
+        for (const name of names) {
+          compareText(read(`${name}.text`), image, input, name);
+          const program = { name: "program.lez", bytes: read(`${name}.lez`) };
+          compareSource(program, image, input, name);
+          image = module.run(image, program, input).file;
         }
-        compareImage(image, texts.join("+"));
+        compareImage(image, names.join("+"));
         images.push(image);
       }
     }
@@ -201,8 +254,9 @@ function compareExamples() {
   created(736, 0, 0);
   same(module.create(735, 0, 0), ["new", "OUT", "735", "seq", "flat"], "new");
   for (const image of images) {
-    for (const name of TEXTS) {
+    for (const name of EXAMPLES) {
       compareText(read(`${name}.text`), image, nothing, name);
+      compareProgram(read(`${name}.lez`), image, nothing, name);
     }
   }
   return images;
@@ -242,7 +296,7 @@ function compareRandomTexts(images, count) {
   const random = new Random(2);
   for (let number = 0; number < count; number++) {
     const image = images[random.below(images.length)];
-    const text = read(`${TEXTS[random.below(TEXTS.length)]}.text`);
+    const text = read(`${EXAMPLES[random.below(EXAMPLES.length)]}.text`);
     const lines = decoded(text).split("\n");
     const at = random.below(lines.length);
     if (random.below(2) === 0) {
@@ -250,10 +304,58 @@ function compareRandomTexts(images, count) {
     } else {
       lines.splice(at, random.below(2), ...lines.slice(random.below(lines.length)).slice(0, 1));
     }
-    compareText(new TextEncoder().encode(lines.join("\n")), image, nothing, `random text ${number}`);
+    compareText(encoder.encode(lines.join("\n")), image, nothing, `random text ${number}`);
     const client = module.assemble(text).file;
     client[random.below(client.length)] = random.below(256);
     compareClient(client, image, nothing, `random client ${number}`);
+  }
+}
+
+/** The programs of the tests: those that compile, and those with errors or warnings. */
+function testPrograms() {
+  const programs = [];
+  for (const section of textOf("texts").split(/^=== /m).slice(1)) {
+    const [name, ...lines] = section.split("\n");
+    if (name.endsWith(".lez")) {
+      programs.push(lines.join("\n"));
+    }
+  }
+  for (const file of ["program_errors.cases", "program_warnings.cases"]) {
+    for (const [, program] of textOf(file).matchAll(/^\$ (?:errors|warnings|told)\b.*\n([^]*?)^---$/gm)) {
+      programs.push(program);
+    }
+  }
+  return programs;
+}
+
+function textOf(name) {
+  return readFileSync(new URL(name, tests), "utf8");
+}
+
+function compareTestPrograms(images, programs) {
+  const input = encoder.encode("hello, world");
+  for (const [number, program] of programs.entries()) {
+    for (const image of [images[0], images[1 + (number % (images.length - 1))]]) {
+      compareProgram(encoder.encode(program), image, input, `program ${number} of the tests`);
+    }
+  }
+}
+
+const TOKENS = ["x", "{", "}", "(", ")", "+", "7", "if ", "else ", "for ", "let ", '"', "object ", "stop", "cache", ".", "\n", "\xff", "ä"];
+
+/** Programs with random changes. */
+function compareRandomPrograms(images, programs, count) {
+  const random = new Random(3);
+  for (let number = 0; number < count; number++) {
+    let program = programs[random.below(programs.length)];
+    for (let changes = 1 + random.below(2); changes > 0; changes--) {
+      const at = random.below(program.length + 1);
+      const token = random.below(3) === 0 ? "" : TOKENS[random.below(TOKENS.length)];
+      program = program.slice(0, at) + token + program.slice(at + random.below(4));
+    }
+    // each character is a byte, so that some programs aren't UTF-8
+    const bytes = Uint8Array.from(program, (it) => it.charCodeAt(0));
+    compareProgram(bytes, images[random.below(images.length)], encoder.encode("abca"), `random program ${number}`);
   }
 }
 
@@ -261,16 +363,18 @@ function compareRandomTexts(images, count) {
 function compareStopped() {
   const small = new Lezgauri(new WebAssembly.Module(readFileSync(modulePath)), { mostText: 2 });
   const image = read("counter.image");
-  const client = module.assemble(read("increment.text")).file;
-  assert.equal(small.run(image, client, nothing).status, STOPPED);
+  const program = { name: "increment.lez", bytes: read("increment.lez") };
+  assert.equal(small.run(image, program, nothing).status, STOPPED);
   assert.equal(small.check(image).status, 0);
 }
 
 assert.ok(hasMemory64(), "this Node needs --experimental-wasm-memory64");
-assert.equal(itemsOf("; a\n\n type i64\n").length, 1);
 const images = compareExamples();
 compareStopped();
+const programs = testPrograms();
+compareTestPrograms(images, programs);
 const sound = compareTestImages();
 const soundRandom = compareRandomImages(images, Number(randomCount));
 compareRandomTexts(images, Math.ceil(Number(randomCount) / 10));
+compareRandomPrograms(images, [...programs, ...EXAMPLES.map((name) => decoded(read(`${name}.lez`)))], Math.ceil(Number(randomCount) / 10));
 console.log(`${compared} answers are segtool's; of the tests' images ${sound} are sound, of the random ones ${soundRandom}`);

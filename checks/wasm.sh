@@ -1,6 +1,7 @@
 #!/usr/bin/env bash
 # Compares the page's module with segtool: builds web/out/lezgauri.wasm, and runs both on the examples, on the images of the checker's
-# tests, and on damaged images and texts. If a browser and its driver are installed, also drives the page in it.
+# tests, on the programs of the tests, and on damaged images, texts and programs. If a browser and its driver are installed, also drives
+# the page in it.
 #
 #   wasm.sh [--built] [SEGTOOL]
 #

@@ -56,12 +56,25 @@ END
 """
 
 
-# A client that runs for seconds.
-LONG = """CONST r1 1
-CONST r2 0
-WHILE r1 300000000
-  ADD r2 r2 r1
-END
+# A program that runs for seconds.
+LONG = """let sum = 0
+for i in 0..160_000_000 {
+    sum += i
+}
+print sum
+"""
+
+# A program with errors of several kinds.
+WRONG = """object visits: int
+let a = b + 1
+visits.push(3)
+\tprint "ä", c
+"""
+
+# A program with warnings.
+UNUSED = """object visits: int
+visits = 1
+let a = 2
 """
 
 
@@ -162,6 +175,16 @@ class Trial:
         self.browser.click("#load-example")
         self.settle()
 
+    def load_source(self, name):
+        self.choose("#source-example", name)
+        self.browser.click("#load-source")
+        self.settle()
+
+    def choose(self, selector, value):
+        self.browser.script(
+            "const box = document.querySelector(arguments[0]); box.value = arguments[1];"
+            "box.dispatchEvent(new Event('change', { bubbles: true }))", selector, value)
+
     def settle(self):
         """Waits until the page has done what was asked."""
         self.browser.wait("the end of what was asked", "return document.querySelector('#main').ariaBusy !== 'true'")
@@ -183,32 +206,43 @@ class Trial:
         self.settle()
 
     def counter(self):
-        self.browser.wait_for_text("#bound", "at most 6 steps")
         (self.folder / "counter").write_bytes((EXAMPLES / "counter.image").read_bytes())
-        (self.folder / "increment").write_bytes((EXAMPLES / "increment.client").read_bytes())
+        self.expect_costs("counter", "increment.lez")
         self.expect_values("counter")
         self.picture("1-counter")
         self.run()
-        assert self.browser.text("#output") == self.command("run", "counter", "saved", "increment")
+        assert self.browser.text("#output") == self.command("run", "counter", "saved", EXAMPLES / "increment.lez")
         self.expect_values("saved")
         self.browser.click("#undo")
         self.settle()
         self.expect_values("counter")
 
+    def expect_costs(self, image, name):
+        """The page shows the steps of each line of an example, and the loops that cost the most."""
+        whole, *table = self.command("verify", image, EXAMPLES / name, "--explain").splitlines()
+        self.browser.wait_for_text("#bound", f"at most {int(whole.split()[1]):,} steps")
+        rows = [re.match(r" *(\d+) +\d+ +(\d+)(  |$)", row) for row in table]
+        wanted = {row[2]: row[1] for row in rows if row}
+        gutter = [line.split() for line in self.browser.text("#gutter").splitlines()]
+        shown = {line[-1]: line[0] for line in gutter if len(line) > 1}
+        assert shown.keys() == wanted.keys(), (name, shown, wanted)
+        assert all(shown[line] == steps for line, steps in wanted.items() if int(steps) < 1000), (name, shown, wanted)
+        loops = [row.replace("the loop", "Loop", 1) for row in table if row.startswith("the loop")]
+        assert self.browser.script("return [...document.querySelectorAll('#loops li')].map((it) => it.textContent)") == loops, name
+
     def cache(self):
         self.load("A cache")
+        program = EXAMPLES / "cache.lez"
         (self.folder / "questions").write_text("abcada")
         (self.folder / "more").write_text("dada")
         self.command("new", "cache", "2048", "seq", "flat")
-        self.command("asm", str(EXAMPLES / "cache.text"), "cache.client")
-        self.command("run", "cache", "cache", "cache.client", "--input", "questions")
+        self.command("run", "cache", "cache", program, "--input", "questions")
         self.expect_values("cache")
-        bound = re.sub(r"\D", "", self.browser.text("#bound"))
-        assert f"steps {bound}\n" == self.command("verify", "cache", "cache.client"), bound
+        self.expect_costs("cache", "cache.lez")
         self.map()
-        self.steps()
+        self.steps(program)
         self.run()
-        assert self.browser.text("#output") == self.command("run", "cache", "cache", "cache.client", "--input", "more")
+        assert self.browser.text("#output") == self.command("run", "cache", "cache", program, "--input", "more")
         self.expect_values("cache")
 
     def map(self):
@@ -224,43 +258,105 @@ class Trial:
         self.browser.type("#canvas", KEYS["enter"])
         assert "block at" in self.browser.text("#place")
 
-    def steps(self):
-        trace = self.command("trace", "cache", "cache.client", "--input", "more").splitlines()
+    def steps(self, program):
+        """Steps through a program on the image `cache`, forth and back, and compares the rows with the lines of its trace."""
+        trace = self.command("trace", "cache", program, "--input", "more").splitlines()
         trace = [line for line in trace if not line.startswith("out ")]
         self.browser.click("#step")
         self.browser.wait_for_text("#changes", "Before")
         for count, line in enumerate(trace[:20], 1):
             self.browser.click("#forth")
-            self.browser.wait("a step", "return document.querySelector('#performed').value === arguments[0]", str(count))
-            row = self.browser.script("return document.querySelector('tr[aria-current] td:nth-child(3)').textContent")
-            assert row == line.split("  ; ")[0][13:].strip(), (row, line)
-            registers = self.browser.script(
-                "return [...document.querySelectorAll('#registers tr')].map((it) => it.children[0].textContent + ' ' +"
-                "it.children[1].textContent.replace(' (changed)', ''))")
-            wanted = line.split("  ; ")[1].replace(" = ", " ").split(", ") if "  ; " in line else []
-            assert [it for it in registers if not it.endswith("undefined")] == wanted, (registers, line)
+            self.expect_step(count, line)
         self.picture("3-steps")
+        self.browser.click("#line-forth")
+        lines = [line.split()[0] for line in trace]
+        self.expect_performed(next(at for at in range(21, len(trace)) if lines[at] != lines[20]))
         self.browser.click("#last")
-        self.browser.wait("the end", "return document.querySelector('#performed').value === arguments[0]", str(len(trace)))
+        self.expect_performed(len(trace))
         self.browser.click("#back")
-        self.browser.wait("a step back", "return document.querySelector('#performed').value === arguments[0]", str(len(trace) - 1))
+        self.expect_performed(len(trace) - 1)
         self.browser.click("#leave")
         self.expect_values("cache")
 
+    def expect_performed(self, count):
+        self.browser.wait(f"step {count}", "return document.querySelector('#performed').value === arguments[0]", str(count))
+        self.settle()
+
+    def expect_step(self, count, line):
+        """The page shows a line of a trace."""
+        self.expect_performed(count)
+        source, instruction = re.match(r" *(\d+) +[-\d]+ +\d+  (\S.*?) *(?:;|$)", line).groups()
+        row = self.browser.script("return [...document.querySelectorAll('tr[aria-current] td')].map((it) => it.textContent)")
+        assert row[1:3] == [source, instruction], (row, line)
+        registers = self.browser.script(
+            "return [...document.querySelectorAll('#registers tr')].map((row) => [...row.children].map((it) => it.textContent"
+            ".replace(' (changed)', '')).filter((it) => it !== '').join(' '))")
+        wanted = line.split("  ; ")[1].replace(" = ", " ").split(", ") if "  ; " in line else []
+        assert [it for it in registers if not it.endswith(" undefined")] == wanted, (registers, line)
+
     def editor(self):
+        """Programs: their costs, their errors at their places, and their warnings."""
         self.load("Visits")
+        self.command("new", "empty", "4096", "best", "tree")
+        for file in sorted(EXAMPLES.glob("*.lez")):
+            self.load_source(file.name)
+            self.expect_costs("empty", file.name)
+        self.set_text(WRONG)
+        problems = self.expect_problems(WRONG, "error")
+        assert len(problems) > 2, problems
+        self.browser.wait_for_text("#bound", f"^{len(problems)} errors")
+        assert self.browser.script("return document.querySelector('#run').disabled")
+        self.expect_carets(problems)
+        self.picture("4-errors")
+        self.browser.click("#problems li:last-child button")
+        line, column = problems[-1][:2]
+        at = sum(len(it) + 1 for it in WRONG.split("\n")[:line - 1]) + column - 1
+        assert self.browser.script("return document.querySelector('#text').selectionStart") == at
+        self.set_text(UNUSED)
+        problems = self.expect_problems(UNUSED, "warning")
+        self.browser.wait_for_text("#bound", f"{len(problems)} warnings")
+        self.picture("5-warnings")
+
+    def expect_problems(self, text, kind):
+        """The page shows the errors or the warnings that segtool prints. Returns the line, the column and the width of each."""
+        (self.folder / "wrong.lez").write_text(text)
+        words = [self.segtool, "compile", "wrong.lez", "wrong.client", "--on", "empty", "--force"]
+        printed = subprocess.run(words, cwd=self.folder, capture_output=True, text=True).stderr
+        found = re.findall(rf"^wrong\.lez:(\d+):(\d+): {kind}: (.*)\n.*\n[ \t]*(\^+)\n(?:hint: (.*)\n)?", printed, re.M)
+        wanted = [f"Line {line}, column {column}: {kind}: {message}{hint and ' — '}{hint}" for line, column, message, _, hint in found]
+        self.browser.wait(f"problems: {wanted}", """
+            const found = [...document.querySelectorAll('#problems li')].map((it) => it.textContent);
+            return JSON.stringify(found) === JSON.stringify(arguments[0])""", wanted, seconds=10)
+        return [(int(line), int(column), len(carets)) for line, column, _, carets, _ in found]
+
+    def expect_carets(self, problems):
+        """Each problem is underlined at its place."""
+        carets = self.browser.script(
+            "return [...document.querySelectorAll('.caret')].map((it) => [it.parentElement.offsetTop, it.offsetLeft, it.offsetWidth])")
+        assert len(carets) == len(problems), (carets, problems)
+        (top, left, width), (line, column, count) = carets[0], problems[0]
+        for (other_top, other_left, other_width), (other_line, other_column, other_count) in zip(carets, problems):
+            assert abs(other_top - top - 24 * (other_line - line)) < 2, (carets, problems)
+            assert abs(other_width / other_count - width / count) < 1, (carets, problems)
+            if "\t" not in WRONG.split("\n")[other_line - 1]:
+                assert abs(other_left - left - width / count * (other_column - column)) < 2, (carets, problems)
+
+    def texts(self):
+        """Assembler texts, and their first flaw."""
+        self.load("Visits")
+        for file in sorted(EXAMPLES.glob("*.text")):
+            self.load_source(file.name)
+            self.expect_costs("empty", file.name)
         self.set_text(HELLO)
         self.browser.wait_for_text("#bound", "at most 6 steps")
         self.set_text(HELLO.replace("ADD r2 r2 r1", "ADD r2 r2 r9"))
         told = self.browser.wait_for_text("#bound", "^Line 6: fault 22 3 1")
         assert "r9" in told, told
-        assert self.browser.script("return !document.querySelector('#flaw').hidden")
-        (self.folder / "visits").write_text(HELLO.replace("ADD r2 r2 r1", "ADD r2 r2 r9"))
-        self.command("new", "empty", "4096", "best", "tree")
-        self.command("asm", "visits", "visits.client")
-        wanted = self.command("verify", "empty", "visits.client", "--explain", status=1)
+        assert self.browser.script("return document.querySelectorAll('.mark.error').length") == 1
+        (self.folder / "visits.text").write_text(HELLO.replace("ADD r2 r2 r1", "ADD r2 r2 r9"))
+        wanted = self.command("verify", "empty", "visits.text", "--explain", status=1)
         assert self.browser.text("#rejection") == "\n".join(wanted.splitlines()[1:])
-        self.picture("4-editor")
+        self.picture("6-text")
         self.set_text(HELLO.replace("STORE r0 r2", "STORE r0"))
         self.browser.wait_for_text("#bound", "^Line 7: fault 21 7")
 
@@ -268,7 +364,7 @@ class Trial:
         """A run that is stopped leaves the image as it was, and the next one runs."""
         self.load("A number")
         self.set_text(LONG)
-        self.browser.wait_for_text("#bound", "at most 600,000,003 steps")
+        self.browser.wait_for_text("#bound", "at most [0-9,]{10,} steps")
         self.browser.click("#run")
         self.browser.wait_for_text("#ran", "It runs")
         self.browser.click("#stop")
@@ -293,13 +389,15 @@ class Trial:
         assert f"refused, {line}." in self.browser.text("#verdict")
         assert self.browser.text("#explanation") == "\n".join(explanation)
         assert self.browser.script("return document.querySelector('#bytes mark.fault').title") == f"byte {line.split()[-1]}"
-        self.picture("5-damaged")
+        self.picture("7-damaged")
 
     def dark(self):
         self.browser.set_colours("dark")
         self.load("A notice")
         self.browser.type("#canvas", KEYS["right"] * 2)
-        self.picture("6-dark")
+        self.set_text(WRONG)
+        self.browser.wait_for_text("#bound", "errors")
+        self.picture("8-dark")
         self.browser.set_colours("light")
 
     def large(self):
@@ -310,7 +408,7 @@ class Trial:
         self.command("asm", "filler", "filler.client")
         self.command("run", "large", "large", "filler.client")
         self.open("large", "an image of 64 MiB with a list of 1,500,000 numbers")
-        self.picture("7-large")
+        self.picture("9-large")
 
     def open(self, name, label):
         self.browser.script("document.querySelector('#verdict').textContent = ''")
@@ -359,7 +457,7 @@ def main():
             trial = Trial(browser, segtool, Path(folder), pictures)
             try:
                 browser.go(f"http://127.0.0.1:{server.server_port}/")
-                for part in (trial.counter, trial.cache, trial.editor, trial.stop, trial.damaged, trial.dark, trial.large):
+                for part in (trial.counter, trial.cache, trial.editor, trial.texts, trial.stop, trial.damaged, trial.dark, trial.large):
                     part()
                     problems = browser.problems()
                     assert not problems, problems

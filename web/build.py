@@ -3,7 +3,7 @@
 
 The toolchain's gate, `rt ci`, takes no crate for WebAssembly. So the module's crates are in web/module with `.in` after the names of
 their files, and this lays them out beside the crates that they use, in a folder of their own. A module has no C library and so none
-of its memory: in the copies, the crates that print take the page's memory instead, and are proved again with it."""
+of its memory: in the copies, the crates that print and those of the compiler take the page's memory instead, and are proved again with it."""
 import argparse
 import functools
 import importlib.machinery
@@ -25,9 +25,11 @@ MODULE = "lezgauri_web"
 HOST = "web_host"
 # The crates that take their memory from the C library, and so are changed in the copies.
 PRINTING = ("cli_show", "cli_explain", "client_trace")
-USED = ("lezgauri", "client_vm", *PRINTING)
-EXAMPLES = ("counter.image", "cache.text", "configure.text", "count.text", "increment.text", "notice.text", "publish.text",
-            "settings.text")
+COMPILING = ("script_syntax", "script_code", "script_places", "script_values", "script_statements", "script_compile")
+CHANGED = (*PRINTING, *COMPILING)
+USED = ("lezgauri", "client_vm", *PRINTING, "script_compile")
+PROGRAMS = ("cache", "configure", "count", "increment", "notice", "publish", "settings")
+EXAMPLES = ("counter.image", *(f"{name}.{suffix}" for name in PROGRAMS for suffix in ("lez", "text")))
 
 
 def with_page_memory(text):
@@ -42,9 +44,13 @@ def with_page_memory(text):
             line = with_allocator(line)
         lines.append(line)
     text = "\n".join(lines)
-    if "HostHeap" not in text:
-        return text
-    return re.sub(r"^use ", f"use {HOST}::HostHeap;\nuse ", text, count=1, flags=re.M)
+    return with_import(text) if "HostHeap" in text else text
+
+
+def with_import(text):
+    """A source file that imports the page's memory: before its other imports, or else after its first comment."""
+    place = re.search(r"^use ", text, re.M) or re.search(r"^(?!//!)", text, re.M)
+    return f"{text[:place.start()]}use {HOST}::HostHeap;\n{text[place.start():]}"
 
 
 def with_allocator(line):
@@ -67,12 +73,12 @@ def lay_crate(crates_folder, name, proved):
         for file in sorted((source / part).rglob("*")):
             if file.is_file():
                 text = file.read_text(encoding="utf-8")
-                if name in PRINTING and file.suffix == ".rt":
+                if name in CHANGED and file.suffix == ".rt":
                     text = with_page_memory(text)
                 write(crates_folder / name / file.relative_to(source), text)
     library = proved / "crates" / name / "out" / "rlib"
     to = crates_folder / name / "out" / "rlib"
-    if name not in PRINTING and library.is_dir() and not to.is_dir():
+    if name not in CHANGED and library.is_dir() and not to.is_dir():
         shutil.copytree(library, to)
 
 
@@ -86,7 +92,7 @@ def lay(folder, proved):
     rows = []
     for name in sorted(wanted):
         lay_crate(crates_folder, name, proved)
-        rows.append(f"{crates[name][1]} {HOST}" if name in PRINTING else crates[name][1])
+        rows.append(f"{crates[name][1]} {HOST}" if name in CHANGED else crates[name][1])
     for name in (HOST, MODULE):
         lay_apart(ROOT / "web" / "module" / name, crates_folder / name)
     rows += [f"{HOST}: libc", f"{MODULE} wasm64: {HOST} {' '.join(USED)}"]
@@ -105,7 +111,7 @@ def accept(folder):
     top = rtlib.Crate(str(folder / "crates" / MODULE), str(folder), {})
     for crate in top.below():
         stamp = Path(crate.folder) / "out" / "rlib" / "stamp"
-        if crate.name not in (HOST, *PRINTING) and Path(crate.rlib).is_dir() and not stamp.exists():
+        if crate.name not in (HOST, *CHANGED) and Path(crate.rlib).is_dir() and not stamp.exists():
             stamp.write_text(crate.stamp(), encoding="utf-8")
 
 

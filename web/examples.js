@@ -1,28 +1,47 @@
-// The examples: each is an image or how to make one, what ran on it, and a client to try.
+// The examples: each is an image or how to make one, what ran on it, and a program to try.
 
-const text = (name) => `out/examples/${name}.text`;
+/** Where an example's file is served. */
+export const exampleFile = (name) => `out/examples/${name}`;
+
+/** The examples that the editor can open. */
+export const SOURCES = [
+  "increment.lez",
+  "count.lez",
+  "cache.lez",
+  "configure.lez",
+  "settings.lez",
+  "publish.lez",
+  "notice.lez",
+  "increment.text",
+  "count.text",
+  "cache.text",
+  "configure.text",
+  "settings.text",
+  "publish.text",
+  "notice.text",
+];
 
 export const EXAMPLES = [
-  { title: "A number: x is 41", image: "out/examples/counter.image", client: text("increment") },
+  { title: "A number: x is 41", image: "counter.image", source: "increment.lez" },
   {
     title: "A cache: a map and a list",
     make: { size: 2048, allocator: 0, index: 0 },
-    ran: [{ client: text("cache"), input: "abcada" }],
-    client: text("cache"),
+    ran: [{ source: "cache.lez", input: "abcada" }],
+    source: "cache.lez",
     input: "dada",
   },
   {
     title: "Settings: a struct of a map and a text",
     make: { size: 4096, allocator: 1, index: 1 },
-    ran: [{ client: text("configure") }],
-    client: text("settings"),
+    ran: [{ source: "configure.lez" }],
+    source: "settings.lez",
   },
   {
     title: "A notice: frozen and shared",
     make: { size: 2048, allocator: 0, index: 0 },
-    ran: [{ client: text("publish") }],
-    client: text("notice"),
+    ran: [{ source: "publish.lez" }],
+    source: "notice.lez",
   },
-  { title: "Visits: counts its runs", make: { size: 4096, allocator: 1, index: 1 }, client: text("count") },
-  { title: "A damaged image", image: "out/examples/counter.image", damage: [[756, 2]], client: text("increment") },
+  { title: "Visits: counts its runs", make: { size: 4096, allocator: 1, index: 1 }, source: "count.lez" },
+  { title: "A damaged image", image: "counter.image", damage: [[756, 2]], source: "increment.lez" },
 ];

@@ -6,6 +6,9 @@ export const ABSENT = 100;
 /** What a call returns if its output was stopped. */
 export const STOPPED = 101;
 
+/** What a call returns if the program has errors. */
+export const WRONG = 102;
+
 /** The least module with a 64-bit memory. */
 const TINY_MODULE = Uint8Array.of(0, 0x61, 0x73, 0x6d, 1, 0, 0, 0, 5, 3, 1, 4, 0);
 
@@ -99,6 +102,10 @@ function grow(memory, pages) {
   }
 }
 
+function encoded(text) {
+  return new TextEncoder().encode(text);
+}
+
 /** Bytes that are added at the end. */
 class ByteList {
   #bytes = new Uint8Array(1024);
@@ -125,9 +132,13 @@ class ByteList {
 }
 
 /**
- * The calls of the module. Each returns an answer: its `status`, which is 0, the number of a fault, `ABSENT` or `STOPPED`; its
+ * The calls of the module. Each returns an answer: its `status`, which is 0, the number of a fault, `ABSENT`, `STOPPED` or `WRONG`; its
  * `text`, the bytes that `segtool` prints; and its `file`, the bytes that `segtool` writes, or null. After a fault the text is the
- * fault's line and explanation. A call throws only if the engine has no memory, and the next call can be made.
+ * fault's line and explanation, and after `WRONG` the errors of the program. A call throws only if the engine has no memory, and the
+ * next call can be made.
+ *
+ * A source is a client, a program or an assembler text: its `name`, which ends in `.lez` for a program and in `.text` for a text, and
+ * its `bytes`. An image that was checked before needn't be checked again for some calls; then its first 704 bytes are enough.
  */
 export class Lezgauri {
   #module;
@@ -167,7 +178,12 @@ export class Lezgauri {
 
   /** The values of all objects, or of the object with a name. */
   show(image, { name = "", whole = false } = {}) {
-    return this.#call("lezgauri_show", image, new TextEncoder().encode(name), Number(whole));
+    return this.#call("lezgauri_show", image, encoded(name), Number(whole));
+  }
+
+  /** The client of a program for an image's types, or for no types if the image is empty. The text has the warnings. */
+  compile({ name, bytes }, image, { checked = false } = {}) {
+    return this.#call("lezgauri_compile", encoded(name), bytes, image, Number(checked));
   }
 
   assemble(text) {
@@ -178,23 +194,23 @@ export class Lezgauri {
     return this.#call("lezgauri_print", client);
   }
 
-  /** Of an image that was checked before, the first 704 bytes are enough. */
-  verify(image, client, { checked = false } = {}) {
-    return this.#call("lezgauri_verify", image, client, Number(checked));
+  /** The most steps of a source's client, and what each line costs. */
+  verify(image, { name, bytes }, { checked = false } = {}) {
+    return this.#call("lezgauri_verify", image, encoded(name), bytes, Number(checked));
   }
 
-  run(image, client, input) {
-    return this.#call("lezgauri_run", image, client, input);
+  run(image, { name, bytes }, input) {
+    return this.#call("lezgauri_run", image, encoded(name), bytes, input);
   }
 
   /** The lines of a trace for the instructions performed from one number to before another. */
-  trace(image, client, input, from, to) {
-    return this.#call("lezgauri_trace", image, client, input, BigInt(from), BigInt(to));
+  trace(image, { name, bytes }, input, from, to) {
+    return this.#call("lezgauri_trace", image, encoded(name), bytes, input, BigInt(from), BigInt(to));
   }
 
   /** The image after a run has performed `count` instructions. */
-  imageAfter(image, client, input, count) {
-    return this.#call("lezgauri_image_after", image, client, input, BigInt(count));
+  imageAfter(image, { name, bytes }, input, count) {
+    return this.#call("lezgauri_image_after", image, encoded(name), bytes, input, BigInt(count));
   }
 
   #call(name, ...values) {

@@ -1,23 +1,13 @@
-// The page: opens images, shows them, and runs clients on them.
+// The page: opens images, shows them, and runs programs on them.
 import { ByteView } from "./byte_view.js";
 import { Calls, Stopped } from "./calls.js";
 import { Editor } from "./editor.js";
 import { byId, counted, element, saveFile, showText } from "./elements.js";
-import { EXAMPLES } from "./examples.js";
+import { EXAMPLES, SOURCES, exampleFile } from "./examples.js";
 import { HeapMap, MAP_WORDS } from "./heap_map.js";
 import { BlockKind, ImageBytes, UNIT } from "./image.js";
-import { ABSENT, STOPPED, hasMemory64 } from "./lezgauri.js";
-import {
-  decoded,
-  faultPosition,
-  instructionLinesOf,
-  itemsOf,
-  linesOf,
-  loopBounds,
-  ownersOf,
-  refusalOf,
-  valuesOf,
-} from "./printed.js";
+import { ABSENT, STOPPED, WRONG, hasMemory64 } from "./lezgauri.js";
+import { costsOf, decoded, faultPosition, linesOf, ownersOf, problemsOf, refusalOf, valuesOf } from "./printed.js";
 import { Run } from "./stepper.js";
 import { ValueTree } from "./value_tree.js";
 
@@ -27,7 +17,7 @@ const MOST_OUTPUT = 1_000_000;
 /** The most bytes of images that are kept for "undo". */
 const MOST_EARLIER_BYTES = 256 * 1024 * 1024;
 
-/** How long after a key the text is assembled, in milliseconds. */
+/** How long after a key the text is translated, in milliseconds. */
 const PAUSE = 150;
 
 /** How many of the instructions before and after the last one are listed. */
@@ -35,6 +25,9 @@ const LISTED = 6;
 
 /** The most instructions to which "to the end" goes. */
 const MOST_PERFORMED = 1_000_000;
+
+/** How an image begins: its header and its types, which are enough to translate a program for it. */
+const FRONT = 704;
 
 const NO_OWNERS = { names: [], owners: [] };
 
@@ -47,6 +40,7 @@ class Page {
   #isSound = false;
   #owners = null;
   #earlier = [];
+  #sourceName = "program.lez";
   #client = null;
   #run = null;
   #performed = 0;
@@ -67,7 +61,7 @@ class Page {
     onOpen: (index) => this.#openBlock(index),
   });
   #editor = new Editor(
-    { text: byId("text"), gutter: byId("gutter"), flaw: byId("flaw"), flawText: byId("flaw-text") },
+    { text: byId("text"), gutter: byId("gutter"), marks: byId("marks") },
     () => this.#edited(),
   );
 
@@ -76,6 +70,7 @@ class Page {
     for (const [index, { title }] of EXAMPLES.entries()) {
       byId("example").append(element("option", { value: String(index) }, title));
     }
+    byId("source-example").append(...SOURCES.map((name) => element("option", {}, name)));
     for (const word of MAP_WORDS) {
       const colour = element("span", {});
       colour.style.background = `var(--${word})`;
@@ -97,13 +92,15 @@ class Page {
       earlier: () => this.#turnBytes(-1),
       later: () => this.#turnBytes(1),
       "open-client": () => byId("client-file").click(),
-      "save-text": () => saveFile("client.text", encoder.encode(this.#editor.value)),
+      "load-source": () => this.#loadSource(byId("source-example").value),
+      "save-text": () => saveFile(this.#sourceName, this.#source.bytes),
       "save-client": () => saveFile("out.client", this.#client),
       run: () => this.#runClient(),
       step: () => this.#stepThrough(),
       first: () => this.#goTo(0),
       back: () => this.#goTo(this.#performed - 1),
       forth: () => this.#goTo(this.#performed + 1),
+      "line-forth": () => this.#goToNextLine(),
       last: () => this.#goToEnd(),
       leave: () => this.#leaveSteps(),
     };
@@ -111,6 +108,7 @@ class Page {
       byId(id).addEventListener("click", () => this.#attempt(action));
     }
     byId("stop").addEventListener("click", () => this.#calls.stop());
+    byId("language").addEventListener("change", ({ target }) => this.#chooseLanguage(target.value));
     onSubmit("new", (fields) => this.#attempt(() => this.#make(fields)));
     onSubmit("go", (fields) => this.#goToByte(Number(fields.at)));
     onFile("file", (file) => this.#attempt(() => this.#openFile(file)));
@@ -166,7 +164,7 @@ class Page {
   async #openFile(file) {
     const bytes = new Uint8Array(await file.arrayBuffer());
     const start = decoded(bytes.subarray(0, 4));
-    if (start === "SEGC" || file.name.endsWith(".text")) {
+    if (start === "SEGC" || isNameOfSource(file.name)) {
       await this.#openClient(file);
     } else {
       await this.#showOther(file.name, bytes);
@@ -182,21 +180,21 @@ class Page {
     }
   }
 
-  async #loadExample({ image, make, damage = [], ran = [], client, input = "" }) {
+  async #loadExample({ image, make, damage = [], ran = [], source, input = "" }) {
     let bytes;
     if (image === undefined) {
       bytes = (await this.#calls.make("create", make.size, make.allocator, make.index)).file;
     } else {
-      bytes = await fetched(image);
+      bytes = await fetched(exampleFile(image));
     }
-    for (const { client: text, input: given = "" } of ran) {
-      const { file } = await this.#calls.make("assemble", await fetched(text));
-      bytes = (await this.#calls.make("run", bytes, file, encoder.encode(given))).file;
+    for (const { source: name, input: given = "" } of ran) {
+      const program = { name, bytes: await fetched(exampleFile(name)) };
+      bytes = (await this.#calls.make("run", bytes, program, encoder.encode(given))).file;
     }
     for (const [at, byte] of damage) {
       bytes[at] = byte;
     }
-    this.#editor.value = decoded(await fetched(client));
+    this.#setSource(source, decoded(await fetched(exampleFile(source))));
     byId("input").value = input;
     await this.#showOther("example.image", bytes);
   }
@@ -230,7 +228,7 @@ class Page {
     this.#showTypes();
     this.#showBytes(refusal);
     this.#showMap();
-    await this.#assembleText();
+    await this.#translate();
   }
 
   #showVerdict(refusal) {
@@ -414,59 +412,92 @@ class Page {
     return this.#changed.map(([from, to]) => ({ from, to, kind: "changed" }));
   }
 
-  // Clients
+  // Programs
+
+  /** The text in the editor, with the name that tells its language. */
+  get #source() {
+    return { name: this.#sourceName, bytes: encoder.encode(this.#editor.value) };
+  }
+
+  get #isProgram() {
+    return this.#sourceName.endsWith(".lez");
+  }
+
+  #setSource(name, text) {
+    this.#leaveSteps();
+    this.#sourceName = name;
+    byId("language").value = this.#isProgram ? ".lez" : ".text";
+    if (SOURCES.includes(name)) {
+      byId("source-example").value = name;
+    }
+    this.#editor.value = text;
+  }
+
+  #chooseLanguage(suffix) {
+    this.#sourceName = this.#sourceName.replace(/\.(lez|text)$/, suffix);
+    this.#editor.clearMarks();
+    this.#edited();
+  }
+
+  async #loadSource(name) {
+    this.#setSource(name, decoded(await fetched(exampleFile(name))));
+    await this.#translate();
+  }
 
   async #openClient(file) {
     const bytes = new Uint8Array(await file.arrayBuffer());
     if (decoded(bytes.subarray(0, 4)) !== "SEGC") {
-      this.#editor.value = decoded(bytes);
+      this.#setSource(isNameOfSource(file.name) ? file.name : `${file.name}.lez`, decoded(bytes));
     } else {
       const { status, text } = await this.#calls.make("print", bytes);
       if (status !== 0) {
         this.#showRejection(`${file.name}: refused, ${decoded(text)}`, []);
         return;
       }
-      this.#editor.value = decoded(text);
+      this.#setSource(`${file.name}.text`, decoded(text));
     }
-    await this.#assembleText();
+    await this.#translate();
   }
 
   #edited() {
     this.#leaveSteps();
     this.#setClient(null);
     clearTimeout(this.#timer);
-    this.#timer = setTimeout(() => this.#attempt(() => this.#assembleText()), PAUSE);
+    this.#timer = setTimeout(() => this.#attempt(() => this.#translate()), PAUSE);
   }
 
-  /** Assembles the text and verifies the client, and shows the first flaw. */
-  async #assembleText() {
+  /** Compiles or assembles the text and verifies the client, and shows what is wrong with it or what it costs. */
+  async #translate() {
     const turn = ++this.#turn;
-    const text = this.#editor.value;
+    const source = this.#source;
+    const front = this.#isSound ? this.#image.bytes.slice(0, FRONT) : new Uint8Array();
     this.#setClient(null);
-    const assembled = await this.#calls.make("assemble", encoder.encode(text));
+    const made = this.#isProgram
+      ? await this.#calls.make("compile", source, front, { checked: true })
+      : await this.#calls.make("assemble", source.bytes);
     if (turn !== this.#turn) {
       return;
     }
-    if (assembled.status !== 0) {
-      this.#showFlaw(text, refusalOf(decoded(assembled.text)));
+    if (made.status !== 0) {
+      this.#showWrong(made);
       return;
     }
+    const warnings = problemsOf(decoded(made.text));
     if (!this.#isSound) {
-      this.#editor.clearMarks();
-      this.#showRejection("The text is a client. It can be verified for an image that the checker accepts.", []);
+      this.#showProblems(warnings);
+      this.#showRejection("The text makes a client. It can be verified for an image that the checker accepts.", []);
       return;
     }
-    const front = this.#image.bytes.slice(0, 704);
-    const verified = await this.#calls.make("verify", front, assembled.file, { checked: true });
+    const verified = await this.#calls.make("verify", front, source, { checked: true });
     if (turn !== this.#turn) {
       return;
     }
     if (verified.status !== 0) {
-      this.#showFlaw(text, refusalOf(decoded(verified.text)));
+      this.#showWrong(verified);
       return;
     }
-    this.#setClient(assembled.file);
-    this.#showBound(text, decoded(verified.text));
+    this.#setClient(made.file);
+    this.#showCosts(costsOf(decoded(verified.text)), warnings);
   }
 
   #setClient(client) {
@@ -476,25 +507,43 @@ class Page {
     }
   }
 
-  #showBound(text, printed) {
-    const steps = /\d+/.exec(printed)[0];
-    this.#editor.showBounds(loopBounds(text).bounds);
-    this.#showRejection(`The verifier accepts it. A run takes at most ${grouped(steps)} steps.`, []);
-    byId("bound").classList.remove("bad");
+  #showCosts({ whole, steps, loops }, warnings) {
+    this.#showProblems(warnings, steps);
+    const also = warnings.length === 0 ? "" : ` ${counted(warnings.length, "warning")}.`;
+    this.#showRejection(`The verifier accepts it. A run takes at most ${whole.toLocaleString("en")} steps.${also}`, []);
+    byId("loops").replaceChildren(...loops.map(({ line, words }) => element("li", {}, `Loop of line ${line}: ${words}`)));
   }
 
-  /** Shows a refusal of the text or of its client at its line. */
-  #showFlaw(text, refusal) {
-    const { number, operands: [operand], explanation } = refusal;
-    const line = flawLine(text, number, operand);
-    const words = flawInWords(explanation);
-    this.#editor.clearMarks();
-    if (line !== null) {
-      this.#editor.showFlaw(line, words);
+  /** Shows why a text has no client, or why the client is refused. */
+  #showWrong({ status, text }) {
+    if (status === WRONG) {
+      const problems = problemsOf(decoded(text));
+      this.#showProblems(problems);
+      this.#showRejection(`${counted(problems.length, "error")}. ${problemInWords(problems[0])}`, []);
+    } else {
+      this.#showFlaw(refusalOf(decoded(text)));
     }
-    const place = line === null ? "" : `Line ${line}: `;
-    this.#showRejection(`${place}${refusal.line}. ${words}`, explanation);
     byId("bound").classList.add("bad");
+  }
+
+  /** Shows why the library refuses a text or its client, of an assembler text at its line. */
+  #showFlaw(refusal) {
+    const line = this.#isProgram ? null : flawLine(this.#editor.value, refusal);
+    const message = flawInWords(refusal.explanation);
+    this.#showProblems(line === null ? [] : [wholeLine(this.#editor.value, line, message)]);
+    const place = line === null ? "" : `Line ${line}: `;
+    this.#showRejection(`${place}${refusal.line}. ${message}`, refusal.explanation);
+  }
+
+  /** Shows errors or warnings in the editor and below it, and the steps of lines. */
+  #showProblems(problems, steps = new Map()) {
+    this.#editor.show(steps, problems);
+    const items = problems.map((it) => {
+      const goTo = () => this.#editor.goTo(it.line, it.column);
+      return element("li", {}, element("button", { type: "button", className: it.kind, onclick: goTo }, problemInWords(it)));
+    });
+    byId("problems").replaceChildren(...(this.#isProgram ? items : []));
+    byId("loops").replaceChildren();
   }
 
   #showRejection(words, explanation) {
@@ -514,7 +563,7 @@ class Page {
     byId("stop").disabled = false;
     byId("ran").textContent = "It runs.";
     try {
-      const { status, text, file } = await this.#calls.make("run", before, this.#client, this.#input);
+      const { status, text, file } = await this.#calls.make("run", before, this.#source, this.#input);
       const duration = performance.now() - begun;
       this.#showOutput(ranInWords(status, duration), decoded(text));
       if (file !== null) {
@@ -558,7 +607,7 @@ class Page {
   }
 
   async #stepThrough() {
-    this.#run = new Run(this.#calls, this.#image.bytes, this.#client, this.#input);
+    this.#run = new Run(this.#calls, this.#image.bytes, this.#source, this.#input);
     byId("steps").hidden = false;
     await this.#goTo(0);
     byId("forth").focus();
@@ -584,6 +633,11 @@ class Page {
     } finally {
       byId("stop").disabled = true;
     }
+  }
+
+  /** Goes on until the next instruction comes from another line. */
+  async #goToNextLine() {
+    await this.#goTo(await this.#run.endOfLine(this.#performed));
   }
 
   /** Shows the run after `count` instructions. */
@@ -617,12 +671,11 @@ class Page {
     byId("performed").value = this.#performed;
     byId("of").textContent = this.#run.isWhole ? `of ${counted(this.#run.known, "instruction")}` : "instructions, of more";
     byId("back").disabled = byId("first").disabled = this.#performed === 0;
-    byId("forth").disabled = byId("last").disabled = isAtEnd;
+    byId("forth").disabled = byId("line-forth").disabled = byId("last").disabled = isAtEnd;
   }
 
   #showCurrentLine(performed) {
-    const lines = instructionLinesOf(this.#editor.value);
-    this.#editor.showCurrent(performed === null ? null : (lines[performed.instruction]?.line ?? null));
+    this.#editor.showCurrent(performed?.line ?? null);
   }
 
   #showRegisters(last, before) {
@@ -630,13 +683,14 @@ class Page {
     const earlier = before?.registers ?? new Map();
     const names = [...new Set([...registers.keys(), ...earlier.keys()])].sort((a, b) => a.slice(1) - b.slice(1));
     const rows = names.map((name) => {
-      const content = registers.get(name);
-      const isChanged = content !== earlier.get(name);
-      const words = content === undefined ? "undefined" : content.replace(/^= /, "");
+      const { variable, content } = registers.get(name) ?? { variable: "", content: "undefined" };
+      const isChanged = content !== (earlier.get(name)?.content ?? "undefined");
+      const words = content.replace(/^= /, "");
       return element(
         "tr",
         { className: isChanged ? "changed" : "" },
         element("th", { scope: "row" }, name),
+        element("td", {}, variable),
         element("td", {}, isChanged ? `${words} (changed)` : words),
       );
     });
@@ -644,7 +698,6 @@ class Page {
   }
 
   async #showPerformed(run) {
-    const lines = instructionLinesOf(this.#editor.value);
     const rows = [];
     for (let index = Math.max(0, this.#performed - LISTED); index < this.#performed + LISTED; index++) {
       const performed = await run.performed(index);
@@ -655,7 +708,7 @@ class Page {
         "tr",
         {},
         element("td", {}, String(performed.step ?? "-")),
-        element("td", {}, String(lines[performed.instruction]?.line ?? "")),
+        element("td", {}, String(performed.line ?? "")),
         element("td", {}, performed.code),
         element("td", {}, performed.output ?? ""),
       );
@@ -683,16 +736,35 @@ class Page {
   }
 }
 
-/** The line of a text with a fault of the assembler or the verifier, from 1, or null. */
-function flawLine(text, number, operand) {
-  const [badLine, rejected, mismatch] = [21, 22, 4];
+/** The line of an assembler text that a refusal is about, from 1, or null. */
+function flawLine(text, { number, operands: [operand], explanation }) {
+  const [badLine, mismatch] = [21, 4];
+  const lines = text.split("\n");
   if (number === badLine) {
-    return Math.min(operand, text.split("\n").length);
+    return Math.min(operand, lines.length);
   }
-  if (number === rejected) {
-    return instructionLinesOf(text)[operand]?.line ?? null;
+  if (number === mismatch) {
+    // types come first
+    const types = lines.flatMap((it, index) => (it.startsWith("type ") ? [index + 1] : []));
+    return types[operand] ?? null;
   }
-  return number === mismatch ? (itemsOf(text)[operand]?.line ?? null) : null;
+  const told = /^instruction \d+, line (\d+)/.exec(explanation[0] ?? "");
+  return told === null ? null : Number(told[1]);
+}
+
+/** An error that is about all of a line. */
+function wholeLine(text, line, message) {
+  const words = text.split("\n")[line - 1] ?? "";
+  const start = words.length - words.trimStart().length;
+  return { line, column: start + 1, kind: "error", message, width: words.trim().length, hint: "" };
+}
+
+function problemInWords({ line, column, kind, message, hint }) {
+  return `Line ${line}, column ${column}: ${kind}: ${message}${hint === "" ? "" : ` — ${hint}`}`;
+}
+
+function isNameOfSource(name) {
+  return name.endsWith(".lez") || name.endsWith(".text");
 }
 
 /** The part of an explanation that fits on a line: what a register should contain and what it does, or the first rule. */

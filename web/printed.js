@@ -1,4 +1,4 @@
-// Reads what `segtool` prints, and the lines of a client's text.
+// Reads what `segtool` prints.
 
 const decoder = new TextDecoder();
 
@@ -75,7 +75,10 @@ export function ownersOf(bytes) {
   return { names, owners: Int32Array.from(owners) };
 }
 
-/** The instructions that `trace` prints, each with the registers' contents and the output. */
+/**
+ * The instructions that `trace` prints, each with the line of the program or text that it comes from, if there is one, with the
+ * registers' contents and variables, and with the output.
+ */
 export function traceOf(text) {
   const performed = [];
   for (const line of linesOf(text)) {
@@ -83,9 +86,10 @@ export function traceOf(text) {
       performed.at(-1).output = line.slice("out ".length);
       continue;
     }
-    const [, step, instruction, rest] = /^ *(\d+|-) +(\d+) {2}(.*)$/.exec(line);
-    const [code, registers = ""] = rest.split(/ *; /, 2);
+    const [, source, step, instruction, rest] = /^(?: *(\d+) )? *(\d+|-) +(\d+) {2}(\S.*)$/.exec(line);
+    const [, code, registers] = /^(.*?)(?: *; (r\d+ .*))?$/.exec(rest);
     performed.push({
+      line: source === undefined ? null : Number(source),
       step: step === "-" ? null : Number(step),
       instruction: Number(instruction),
       code,
@@ -98,64 +102,46 @@ export function traceOf(text) {
 
 function registersOf(text) {
   const registers = new Map();
-  for (const part of text === "" ? [] : text.split(", ")) {
-    const [, register, content] = /^(r\d+) (.*)$/.exec(part);
-    registers.set(register, content);
+  for (const part of text === undefined ? [] : text.split(/, (?=r\d+ )/)) {
+    const [, register, variable = "", content] = /^(r\d+) (?:(\w+) )?((?:=|->|reads|owns) .*)$/.exec(part);
+    registers.set(register, { variable, content });
   }
   return registers;
 }
 
-/** The operations that have a success part and an else part. */
-const OPENERS = new Set(
-  (
-    "IF GETB MAKE FIND FINDOR COUNT UMAKE UFIND UFINDOR NEW TAKE CONTENT AT PUSH PUSHF POP POPF " +
-    "SETS ADDS ADDB GETK PUTK FIRSTK NEXTK FREEZE"
-  ).split(" "),
-);
-
-/** The lines of a text that declare something, as its canonical text has them: the line's number, from 1, and its first word. */
-export function itemsOf(text) {
-  return text.split("\n").flatMap((line, index) => {
-    const word = line.startsWith(";") ? "" : line.trim().split(" ", 1)[0];
-    return word === "" ? [] : [{ line: index + 1, word, words: line.trim().split(/ +/) }];
-  });
-}
-
-const DECLARATIONS = new Set(["type", "text", "name", "family"]);
-
-/** The lines of a text's instructions, in order. */
-export function instructionLinesOf(text) {
-  return itemsOf(text).filter(({ word }) => !DECLARATIONS.has(word));
-}
-
-/** The most steps of each loop of an accepted text, by the number of its line. */
-export function loopBounds(text) {
-  const bounds = new Map();
-  const open = [{ steps: 0n }];
-  for (const { line, word, words } of instructionLinesOf(text)) {
-    const part = open.at(-1);
-    if (word === "WHILE") {
-      open.push({ line, turns: BigInt(words[2]), steps: 0n });
-    } else if (OPENERS.has(word)) {
-      open.push({ steps: 0n });
-    } else if (word === "ELSE") {
-      part.success = part.steps;
-      part.steps = 0n;
-    } else if (word === "END") {
-      open.pop();
-      open.at(-1).steps += stepsOf(part, bounds);
-    } else {
-      part.steps += 1n;
+/** What `verify --explain` prints: the most steps, for each line with instructions its steps, and the loops that cost the most. */
+export function costsOf(text) {
+  const [first, ...rows] = linesOf(text);
+  const steps = new Map();
+  const loops = [];
+  for (const row of rows) {
+    const cost = /^ *(\d+) +\d+ +(\d+)(?: {2}|$)/.exec(row);
+    const loop = /^the loop of line (\d+): (.*)$/.exec(row);
+    if (cost !== null) {
+      steps.set(Number(cost[2]), BigInt(cost[1]));
+    } else if (loop !== null) {
+      loops.push({ line: Number(loop[1]), words: loop[2] });
     }
   }
-  return { bounds, whole: open[0].steps };
+  return { whole: BigInt(first.slice("steps ".length)), steps, loops };
 }
 
-function stepsOf({ line, turns, success = 0n, steps }, bounds) {
-  if (turns === undefined) {
-    return 1n + (success > steps ? success : steps);
+/** The errors or warnings of a program: the position of each, its message, how many characters it is about, and a hint or "". */
+export function problemsOf(text) {
+  const lines = linesOf(text);
+  const problems = [];
+  for (let at = 0; at < lines.length; at++) {
+    const head = /^.*?:(\d+):(\d+): (error|warning): (.*)$/.exec(lines[at]);
+    const hint = /^hint: (.*)$/.exec(lines[at]);
+    if (head !== null) {
+      const [, line, column, kind, message] = head;
+      // the line of the program, and carets under a part of it
+      const width = /^[ \t]*(\^+)$/.exec(lines[at + 2] ?? "")?.[1].length ?? 0;
+      problems.push({ line: Number(line), column: Number(column), kind, message, width, hint: "" });
+      at += width > 0 ? 2 : 0;
+    } else if (hint !== null) {
+      problems.at(-1).hint = hint[1];
+    }
   }
-  const bound = 1n + turns * (1n + steps);
-  bounds.set(line, bound);
-  return bound;
+  return problems;
 }

@@ -6,6 +6,9 @@ import { decoded, traceOf } from "./printed.js";
 /** How many instructions of a trace are read at once. */
 const WINDOW = 256;
 
+/** How many instructions of one line are performed at once, at most. */
+const MOST_OF_LINE = 10_000;
+
 /** How many bytes of images are kept, besides those of the last two. */
 const MOST_IMAGE_BYTES = 128 * 1024 * 1024;
 
@@ -16,10 +19,10 @@ export class Run {
   #images = new Map();
   #start;
 
-  /** A run of a client on an image that the module accepts. */
-  constructor(calls, image, client, input) {
+  /** A run of a client, a program or a text on an image that the module accepts. */
+  constructor(calls, image, source, input) {
     this.#calls = calls;
-    this.#job = [image, client, input];
+    this.#job = [image, source, input];
     this.#start = image;
     /** How many instructions are performed at least, and whether there are no more. */
     this.known = 0;
@@ -47,6 +50,16 @@ export class Run {
     }
     this.isWhole ||= isEnd;
     return performed;
+  }
+
+  /** The number of instructions after which the line of instruction `index` is left, or many of the line are performed. */
+  async endOfLine(index) {
+    const line = (await this.performed(index))?.line;
+    let end = index;
+    do {
+      end += 1;
+    } while (end < index + MOST_OF_LINE && (await this.performed(end))?.line === line);
+    return end;
   }
 
   /** How many instructions are performed, at most `most`. */
