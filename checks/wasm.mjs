@@ -77,7 +77,7 @@ function compareImage(bytes, label) {
     same(module.map(bytes), ["map", "image"], label);
     return false;
   }
-  for (const call of ["stat", "list", "map", "show"]) {
+  for (const call of ["stat", "types", "list", "map", "show"]) {
     same(module[call](bytes), [call, "image"], label);
   }
   same(module.show(bytes, { whole: true }), ["show", "image", "--all"], label);

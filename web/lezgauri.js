@@ -168,6 +168,10 @@ export class Lezgauri {
     return this.#call("lezgauri_stat", image);
   }
 
+  types(image) {
+    return this.#call("lezgauri_types", image);
+  }
+
   list(image) {
     return this.#call("lezgauri_list", image);
   }

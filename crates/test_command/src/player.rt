@@ -184,12 +184,11 @@ impl<'a> Player<'a> {
         let (word, rest) = words.split_once(' ').unwrap_or((words, ""));
         let made = self.made(word, "it", rest, given)?.ok_or("no file")?;
         self.files.add("it", made.as_slice())?;
-        let command = match command {
-            "check" => "segtool check it --explain",
-            "print" => "segtool print it --explain",
-            "asm" => "segtool asm it saved --explain",
-            _ => "segtool verify saved it --explain",
-        };
+        self.tells_why(command_on_it(command), wanted)
+    }
+
+    /// Tests what a command prints after the line of its fault.
+    fn tells_why(&mut self, command: &str, wanted: &str) -> Result<(), Fail> {
         let words = words_of(self.alloc, self.turn, command)?;
         let printed = Printed::by(self.alloc, words.as_slice(), &mut self.files, ALL);
         let found = printed.explanation();
@@ -255,6 +254,16 @@ impl<'a> Player<'a> {
             "writes" => files.writes == name.parse()?,
             _ => return Err(Fail::new(format_args!("no statement: {words}"))),
         })
+    }
+}
+
+/// The command line on the file of a statement `explains`.
+fn command_on_it(command: &str) -> &'static str {
+    match command {
+        "check" => "segtool check it --explain",
+        "print" => "segtool print it --explain",
+        "asm" => "segtool asm it saved --explain",
+        _ => "segtool verify saved it --explain",
     }
 }
 
