@@ -7,6 +7,7 @@
 #   make clean                      removes what was built, so that `make` proves and builds it anew
 #
 # `make` doesn't look at the sources: after a change of them, `make clean` comes first.
+MAKEFLAGS += --no-builtin-rules
 PREFIX ?= /usr/local
 BINDIR ?= $(PREFIX)/bin
 LIBDIR ?= $(PREFIX)/lib

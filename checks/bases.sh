@@ -14,7 +14,7 @@ seed=${2:-1}
 work=$(mktemp -d)
 trap 'rm -rf "$work"' EXIT
 "${CC:-cc}" -std=c11 -O1 -I"$root/crates/lezgauri_c/include" -Wl,--wrap=malloc,--wrap=realloc,--wrap=free \
-  -o "$work/fuzz" "$root"/fuzz/*.c "$library"
+  -o "$work/fuzz" "$root"/fuzz/{common,generate,mutate,program_text,targets,calls,memory,main}.c "$library"
 mkdir "$work/clients"
 "$work/fuzz" --corpus client "$seed" "$count" "$work/clients"
 cd "$work"

@@ -107,7 +107,7 @@ uint8_t *guarded(size_t len)
 
 void free_guarded(uint8_t *memory, size_t len)
 {
-    memory += len - pages(len);
+    memory -= pages(len) - len;
     static int next;
     for (int i = 0; i < KEPT_BLOCKS; i++) {
         if (kept[i].memory == memory) {

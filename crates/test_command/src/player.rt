@@ -12,7 +12,7 @@
 //!     $ program FILE PROGRAM  the program with this name in the file of texts
 //!     $ increment FILE        the client of `examples/increment.text`, byte by byte
 //!     $ counter FILE ..       the counter's image, with these changes
-//!     $ image FILE NAME       the image of the text with this name: its length, and changes of the counter's image
+//!     $ image FILE TEXT       the image that a text of this name describes: its length, and changes of the counter's image
 //!     $ contents              the lines are such a text, for the images `changed`
 //!     $ changed FILE ..       the image of the last `contents`, with these changes; `;` begins a comment
 //!     $ damaged FILE N AT BYTE  the increment client, cut to N bytes, with this byte at AT

@@ -1,7 +1,7 @@
 //! Statements about programs. After the words come the lines of a program, without the last line end, a line `---`, and what
 //! `segtool compile` tells of it.
 //!
-//!     $ errors        the errors: the line and column of each, its message, and after `/` its hint or `-`; no lines if there are none
+//!     $ errors        the errors: the line and column of each, its message, and after `/` its hint or `-`; no lines without an error
 //!     $ warnings      the warnings, in the same way
 //!     $ told          all that is told, as it is printed for a file `p.lez`
 //!     $ nested N A B  the errors in the words of `let x = ` and an expression: the first A bytes N times, the middle, the last B bytes N times
