@@ -97,8 +97,9 @@ def main():
                 differences = difflib.unified_diff(lines, dumped, "text", "dump", lineterm="")
                 raise SystemExit("\n".join([f"\nseed {seed}: another dump", *differences]))
             image.unlink()
-            print(f"\r{seed - asked.seed + 1} of {asked.count} dumps", end="", file=sys.stderr)
-    print(f"\r{asked.count} dumps, each the same after it was loaded", file=sys.stderr)
+            if sys.stderr.isatty():
+                print(f"\r{seed - asked.seed + 1} of {asked.count} dumps", end="", file=sys.stderr)
+    print(f"{asked.count} dumps, each the same after it was loaded")
 
 
 if __name__ == "__main__":

@@ -26,7 +26,7 @@ if [ -z "$built" ]; then
 fi
 "$here/test_images.py" "$work/images"
 flag=
-if ! node -e 'process.exit(!WebAssembly.validate(Uint8Array.of(0, 97, 115, 109, 1, 0, 0, 0, 5, 3, 1, 4, 0)))'; then
+if ! node -e 'process.exit(WebAssembly.validate(Uint8Array.of(0, 97, 115, 109, 1, 0, 0, 0, 5, 3, 1, 4, 0)) ? 0 : 1)'; then
   flag=--experimental-wasm-memory64
 fi
 mkdir "$work/files"
