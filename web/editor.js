@@ -1,4 +1,4 @@
-// The text of a program or a client, with line numbers, the steps of lines, and problems under their lines.
+// The text of a program or a client, with line numbers, the steps of lines, and problems at their lines.
 import { element } from "./elements.js";
 
 /** The most problems that are drawn: more would make typing slow. */
@@ -101,8 +101,12 @@ export class Editor {
     this.#marks.replaceChildren(...marks.filter((it) => it !== null));
   }
 
-  /** A line under what a problem is about, and its message below, beside the next line. Null if it isn't in view. */
-  #mark({ line, column, width, kind, message }, lines, { lineHeight, paddingTop, paddingLeft, characterWidth, tabSize }) {
+  /**
+   * A line under what a problem is about, and its message at the end of the text's line, unless another problem has that place. Null
+   * if it isn't in view.
+   */
+  #mark(problem, lines, { lineHeight, paddingTop, paddingLeft, characterWidth, tabSize }) {
+    const { line, column, width, kind, message } = problem;
     const top = paddingTop + line * lineHeight - this.#text.scrollTop;
     if (top < 0 || top > this.#text.clientHeight) {
       return null;
@@ -113,10 +117,14 @@ export class Editor {
     const caret = element("span", { className: "caret" });
     caret.style.left = left(columns(before));
     caret.style.width = `${Math.max(1, width) * characterWidth}px`;
-    const words = element("span", { className: "words" }, message);
-    words.style.marginLeft = `max(0px, min(${left(columns(lines[line] ?? "") + 2)}, 100% - 14rem))`;
-    const mark = element("div", { className: `mark ${kind}` }, caret, words);
+    const mark = element("div", { className: `mark ${kind}` }, caret);
     mark.style.top = `${top}px`;
+    if (this.#problems.find((it) => it.line === line) === problem) {
+      const words = element("span", { className: "words" }, message);
+      words.style.marginTop = `${-lineHeight}px`;
+      words.style.marginLeft = `max(0px, min(${left(columns(lines[line - 1] ?? "") + 2)}, 100% - 14rem))`;
+      mark.append(words);
+    }
     return mark;
   }
 
