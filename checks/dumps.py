@@ -16,7 +16,7 @@ from pathlib import Path
 # each type is made of types before it
 TYPES = ["i64", "str", "vec t1", "map t0", "own t3", "struct t0 t2 t4", "flat_map t5", "shared t0", "list t7", "vec t8", "own t6"]
 BACKSLASH = 92
-# the type of the list that points to all frozen objects, since one without a cell that points to it would go
+# the type of the list that points to all frozen objects, since `load` drops a frozen object that no cell points to
 ALL = 8
 
 
