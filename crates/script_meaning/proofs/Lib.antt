@@ -1,0 +1,3 @@
+pub mod SequenceLaws
+pub mod PartLaws
+pub mod ObjectLaws

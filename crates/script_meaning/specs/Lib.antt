@@ -1,0 +1,3 @@
+pub mod Meaning
+pub mod Following
+pub mod Comparing

@@ -1,0 +1,61 @@
+//! Programs of the core, as trees.
+
+/// What is worked out from two numbers.
+#[derive(Debug, Clone, Copy, PartialEq, Eq)]
+pub enum Operator {
+    Add,
+    Subtract,
+    Multiply,
+    Less,
+    LessOrEqual,
+    Greater,
+    GreaterOrEqual,
+    Equal,
+    NotEqual,
+    And,
+    Or,
+}
+
+/// A number that a program works out.
+#[derive(Drop)]
+pub enum Number {
+    Literal(i64),
+    /// A variable, by its number.
+    Variable(usize),
+    Combined(Operator, Box<Number>, Box<Number>),
+    /// The number of an object, or the second number if there is no such object.
+    ObjectOr(usize, Box<Number>),
+}
+
+/// Statements, each with those that follow it as its last part.
+#[derive(Drop)]
+pub enum Code {
+    End,
+    /// A variable gets a number.
+    Set(usize, Number, Box<Code>),
+    /// These bytes are printed.
+    Print(Vec<u8>, Box<Code>),
+    /// A number is printed in decimal, and the line ends.
+    PrintLine(Number, Box<Code>),
+    /// The first statements run if the number isn't 0, and the second ones if it is.
+    If(Number, Box<Code>, Box<Code>, Box<Code>),
+    /// The first statements run as long as the number isn't 0, but at most so many times.
+    While(Number, u32, Box<Code>, Box<Code>),
+    /// Like `While`. The second statements run if the number isn't 0 after the last turn.
+    WhileElse(Number, u32, Box<Code>, Box<Code>, Box<Code>),
+    /// An object gets a number. It is made if there is no object of its name. The statements run if that fails.
+    Store(usize, Number, Box<Code>, Box<Code>),
+    /// An object gets what is worked out from its number and another one. It is made as in `Store`.
+    Change(usize, Operator, Number, Box<Code>, Box<Code>),
+    /// If there is this object, a variable gets its number and the first statements run, otherwise the second ones.
+    IfObject(usize, usize, Box<Code>, Box<Code>, Box<Code>),
+    /// An object is destroyed, if it is there.
+    Delete(usize, Box<Code>),
+}
+
+/// A program of the core: the names of its objects in the segment, each of which is a number, and its statements.
+#[derive(Drop)]
+pub struct Program {
+    pub objects: Vec<Vec<u8>>,
+    pub code: Code,
+}
