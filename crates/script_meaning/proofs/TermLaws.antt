@@ -1,7 +1,13 @@
 -- The values of terms: terms keep their values when others are added.
-use Rattle.std.proofs.Common.{◌≡◌, ℕ, zero, suc, ◌+◌, ◌<◌, ℤ, pos, List, [], ◌∷◌, ◌++◌, length, take, drop, Some, slice_get, slice_index_or, refl, sym, ◌∙◌, ap, subst, arith, append_assoc, length-append, length-take}
+use Rattle.std.proofs.Common.{◌≡◌, ℕ, zero, suc, ◌+◌, ◌<◌, ℤ, pos, List, [], ◌∷◌, ◌++◌, length, take, drop, Some, None, Option, IfSome, Bool, true, false, not, ◌&&◌, ◌||◌, slice_get, slice_index_or, refl, sym, ◌∙◌, ap, subst, arith, append_assoc, length-append, length-take}
 use Rattle.std.proofs.lemmas.Option.{slice_get_within, get_or_from_slice_get}
+use Rattle.std.specs.Int.{w64, int_wrapping_add, int_wrapping_mul}
+use Rattle.std.specs.Prelude.{int_lt}
+use Rattle.seg_spec.specs.Value.{same_int}
+use Rattle.client_spec.specs.Effect.{truth}
 use Rattle.script_meaning.specs.declared.terms.Computation.{Computation}
+use Rattle.script_meaning.specs.declared.terms.Computation.TheVariants as computation
+use Rattle.script_meaning.specs.declared.program.Operator.TheVariants as operator
 use Rattle.script_meaning.specs.declared.terms.Term.{Term}
 use Rattle.script_meaning.specs.declared.terms.Term.TheVariants as term
 use Rattle.script_meaning.specs.Meaning.{Moment, Setting, combined, or_else, number_of}
@@ -34,6 +40,10 @@ cut_at : {X : Type 0} (xs : List X) (i : ℕ) (x : X) → slice_get xs i ≡ Som
 cut_at [] i x e = cc
 cut_at (y ∷ ys) zero x e = let same : y ≡ x = cc in ap (λ z. z ∷ ys) same
 cut_at (y ∷ ys) (suc i) x e = ap (λ zs. y ∷ zs) (cut_at ys i x e)
+
+-- an element that was added at the end is there
+pub pushed : {X : Type 0} (old new : List X) (x : X) (i : ℕ) → new ≡ old ++ x ∷ [] → i ≡ length old → slice_get new i ≡ Some x
+pushed old new x i is end = ap (λ xs. slice_get xs i) is ∙ subst (λ j. slice_get (old ++ x ∷ []) j ≡ Some x) (sym end) (get_seam old x [])
 
 module _ (setting : Setting) (m : Moment) where
   -- the numbers that are there stay
@@ -135,3 +145,43 @@ module _ (setting : Setting) (m : Moment) (terms : List Term) (at : ℕ) where
 pub literal_is : (setting : Setting) (m : Moment) (terms : List Term) (at : ℕ) (k x : ℤ) → slice_get terms at ≡ Some (term.Literal k)
     → HasValue setting m terms at x → k ≡ x
 literal_is setting m terms at k x there e = one_value setting m terms at k x (literal_value setting m terms at k there) e
+
+-- ---- what may be there
+
+-- what is true of all that there may be, is true of what there is
+pub if_some : {A : Type 0} (P Q : A → Type 0) (o : Option A) → ((a : A) → P a → Q a) → IfSome o P → IfSome o Q
+if_some P Q None each h = tt
+if_some P Q (Some a) each h = each a h
+
+-- ---- operators, as the compiler writes them
+
+not_is : (b : Bool) → truth (same_int (truth b) (pos 0)) ≡ truth (not b)
+not_is true = refl
+not_is false = refl
+
+and_is : (a b : Bool) → truth (same_int (int_wrapping_add w64 (truth a) (truth b)) (pos 0)) ≡ truth (not a && not b)
+and_is true true = refl
+and_is true false = refl
+and_is false true = refl
+and_is false false = refl
+
+or_is : (a b : Bool) → truth (same_int (int_wrapping_mul w64 (truth a) (truth b)) (pos 0)) ≡ truth (not a || not b)
+or_is true true = refl
+or_is true false = refl
+or_is false true = refl
+or_is false false = refl
+
+pub both_law : (x y : ℤ) → truth (same_int (combined (operator_of computation.Add) (truth (same_int x (pos 0))) (truth (same_int y (pos 0)))) (pos 0)) ≡ combined operator.And x y
+both_law x y = and_is (same_int x (pos 0)) (same_int y (pos 0))
+
+pub either_law : (x y : ℤ) → truth (same_int (combined (operator_of computation.Multiply) (truth (same_int x (pos 0))) (truth (same_int y (pos 0)))) (pos 0)) ≡ combined operator.Or x y
+either_law x y = or_is (same_int x (pos 0)) (same_int y (pos 0))
+
+pub less_or_equal_law : (x y : ℤ) → truth (same_int (truth (int_lt y x)) (pos 0)) ≡ combined operator.LessOrEqual x y
+less_or_equal_law x y = not_is (int_lt y x)
+
+pub greater_or_equal_law : (x y : ℤ) → truth (same_int (truth (int_lt x y)) (pos 0)) ≡ combined operator.GreaterOrEqual x y
+greater_or_equal_law x y = not_is (int_lt x y)
+
+pub not_equal_law : (x y : ℤ) → truth (same_int (truth (same_int x y)) (pos 0)) ≡ combined operator.NotEqual x y
+not_equal_law x y = not_is (same_int x y)

@@ -2,6 +2,7 @@
 ghost use Rattle.std.specs.Prelude.{◌≡◌, [], IfSome, true, pos};
 ghost use Rattle.script_meaning.specs.Meaning.{Moment, Setting, value, or_else, number_of, combined};
 ghost use Rattle.script_meaning.specs.Following.{Extends, HasValue, operator_of};
+ghost use Rattle.script_meaning.specs.declared.terms.Term.TheVariants as term;
 ghost use Rattle.client_spec.specs.Effect.{truth};
 ghost use Rattle.seg_spec.specs.Value.{same_int};
 
@@ -58,12 +59,24 @@ impl Terms {
         }
     }
 
+    /// The position of a term that there is already.
+    fn known(&self, term: Term) -> Option<TermAt>
+        ensures { IfSome result (λ at. slice_get self.now.list.items at ≡ Some term) }
+    {
+        for (at, known) in self.list.iter().enumerate() {
+            if *known == term {
+                return Some(at);
+            }
+        }
+        None
+    }
+
     /// The position of a term, which is added if it is new. `None` if there are too many terms.
     fn position(&mut self, term: Term) -> Option<TermAt>
         ensures there { IfSome result (λ at. slice_get self.new.list.items at ≡ Some term) }
         ensures extends { Extends self.old.list.items self.new.list.items }
     {
-        if let Some(at) = self.list.iter().position(|known| *known == term) {
+        if let Some(at) = self.known(term) {
             return Some(at);
         }
         let at = self.list.len();
@@ -95,6 +108,37 @@ impl Terms {
         matches!(self.list.get(at), Some(Term::Variable(found)) if *found == variable)
     }
 
+    /// The number of a term that is a literal.
+    fn literal_at(&self, at: TermAt) -> Option<i64>
+        ensures { IfSome result (λ value. slice_get self.now.list.items at ≡ Some (term.Literal value)) }
+    {
+        match self.list.get(at) {
+            Some(Term::Literal(value)) => Some(*value),
+            _ => None,
+        }
+    }
+
+    /// The term of an instruction that works out a number from two terms.
+    fn worked_out(
+        &mut self,
+        computation: Computation,
+        left: TermAt,
+        right: TermAt,
+    ) -> Option<TermAt>
+        ensures value { IfSome result (λ at. (setting : Setting) (m : Moment) (x y : ℤ)
+            → HasValue setting m self.old.list.items left x
+            → HasValue setting m self.old.list.items right y
+            → HasValue setting m self.new.list.items at (combined (operator_of computation) x y)) }
+        ensures extends { Extends self.old.list.items self.new.list.items }
+    {
+        let at = self.position(Term::Computed(computation, left, right))?;
+        if left < at && right < at {
+            Some(at)
+        } else {
+            None
+        }
+    }
+
     /// What is worked out from two terms.
     pub(crate) fn computed(
         &mut self,
@@ -108,17 +152,9 @@ impl Terms {
             → HasValue setting m self.new.list.items at (combined (operator_of computation) x y)) }
         ensures extends { Extends self.old.list.items self.new.list.items }
     {
-        if let (Some(Term::Literal(x)), Some(Term::Literal(y))) =
-            (self.list.get(left), self.list.get(right))
-        {
-            let value = compute(computation, *x, *y);
-            return self.literal(value);
-        }
-        let at = self.position(Term::Computed(computation, left, right))?;
-        if left < at && right < at {
-            Some(at)
-        } else {
-            None
+        match (self.literal_at(left), self.literal_at(right)) {
+            (Some(x), Some(y)) => self.literal(compute(computation, x, y)),
+            _ => self.worked_out(computation, left, right),
         }
     }
 
