@@ -100,17 +100,32 @@ impl Terms {
         self.position(Term::Variable(variable))
     }
 
+    /// The variable of a term that is one.
+    fn variable_at(&self, at: TermAt) -> Option<usize>
+        ensures { IfSome result (λ found. slice_get self.now.list.items at
+            ≡ Some (term.Variable found)) }
+    {
+        match self.list.get(at) {
+            Some(Term::Variable(found)) => Some(*found),
+            _ => None,
+        }
+    }
+
     /// Whether this is the term of a variable.
     pub(crate) fn is_variable(&self, at: TermAt, variable: usize) -> bool
         ensures { result ≡ true → (setting : Setting) (m : Moment)
             → HasValue setting m self.now.list.items at (m.variables variable) }
     {
-        matches!(self.list.get(at), Some(Term::Variable(found)) if *found == variable)
+        match self.variable_at(at) {
+            Some(found) => found == variable,
+            None => false,
+        }
     }
 
     /// The number of a term that is a literal.
     fn literal_at(&self, at: TermAt) -> Option<i64>
-        ensures { IfSome result (λ value. slice_get self.now.list.items at ≡ Some (term.Literal value)) }
+        ensures { IfSome result (λ value. slice_get self.now.list.items at
+            ≡ Some (term.Literal value)) }
     {
         match self.list.get(at) {
             Some(Term::Literal(value)) => Some(*value),
@@ -228,7 +243,8 @@ impl Terms {
             → HasValue setting m self.old.list.items left x
             → HasValue setting m self.old.list.items right y
             → HasValue setting m self.new.list.items at (truth (same_int
-            (combined (operator_of computation) (truth (same_int x (pos 0))) (truth (same_int y (pos 0)))) (pos 0)))) }
+            (combined (operator_of computation) (truth (same_int x (pos 0)))
+            (truth (same_int y (pos 0)))) (pos 0)))) }
         ensures extends { Extends self.old.list.items self.new.list.items }
     {
         let left = self.is_zero(left)?;

@@ -1,9 +1,8 @@
-use Rattle.std.proofs.Common.{rules, ◌≡◌, IfSome, ℤ, Some, slice_get, refl, sym, ap, subst, ◌∙◌, arith, FitsSigned, w64}
+use Rattle.std.proofs.Common.{◌≡◌, subst, ◌∙◌, arith, FitsSigned, w64}
 use Rattle.std.specs.Int.{cast_signed, cast_unsigned}
 use Rattle.std.proofs.lemmas.Int.{to_z-of_z}
-use Rattle.script_meaning.specs.Meaning.{Moment, Setting, combined}
+use Rattle.script_meaning.specs.Meaning.{combined}
 use Rattle.script_meaning.specs.Following.{HasValue, operator_of}
-use Rattle.script_meaning.specs.declared.terms.Term.TheVariants as term
 use Rattle.script_meaning.proofs.TermLaws.{if_some, literal_is}
 use Rattle.script_meaning.proofs.terms.Terms.computed.Goals as goal
 

@@ -1,8 +1,3 @@
-use Rattle.std.proofs.Common.{rules, ◌≡◌, [], IfSome, true, pos, ℤ, ℕ, Some, None, slice_get, ◌+◌, ◌<◌, ◌≤◌, length, Bool, false, List, ◌∷◌, ◌++◌, refl, sym, ap, subst, ◌∙◌, arith}
-use Rattle.script_meaning.specs.Meaning.{Moment, Setting, value, or_else, number_of, combined}
-use Rattle.script_meaning.specs.Following.{Extends, HasValue, operator_of}
-use Rattle.client_spec.specs.Effect.{truth}
-use Rattle.seg_spec.specs.Value.{same_int}
 use Rattle.script_meaning.proofs.TermLaws.{extends_keeps, object_value}
 use Rattle.script_meaning.proofs.terms.Terms.object_or.Goals as goal
 
