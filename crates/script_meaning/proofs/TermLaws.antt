@@ -115,9 +115,9 @@ module _ (setting : Setting) (m : Moment) (terms : List Term) (at : ℕ) where
       let size = before_length t there in
       let here : i < length (before ++ term_value setting m before t ∷ []) = omega (arith, size, below, length-append before (term_value setting m before t ∷ [])) in
       let kept : slice_get (values_of setting m terms) i ≡ slice_get before i
-          = ap (λ ks. slice_get ks i) (values_are t there)
-          ∙ after_keeps setting m (before ++ term_value setting m before t ∷ []) (drop (suc at) terms) i here
-          ∙ get_front before (term_value setting m before t ∷ []) i (omega (arith, size, below)) in
+      = ap (λ ks. slice_get ks i) (values_are t there)
+      ∙ after_keeps setting m (before ++ term_value setting m before t ∷ []) (drop (suc at) terms) i here
+      ∙ get_front before (term_value setting m before t ∷ []) i (omega (arith, size, below)) in
       get_or_from_slice_get before i k (pos 0) (sym kept ∙ e)
 
   pub literal_value : (k : ℤ) → slice_get terms at ≡ Some (term.Literal k) → HasValue setting m terms at k

@@ -182,11 +182,7 @@ impl Terms {
         ensures extends { Extends self.old.list.items self.new.list.items }
     {
         let at = self.position(Term::ObjectOr(object, default))?;
-        if default < at {
-            Some(at)
-        } else {
-            None
-        }
+        if default < at { Some(at) } else { None }
     }
 
     /// The term that is 1 if a term is 0, and 0 otherwise.
@@ -201,12 +197,7 @@ impl Terms {
     }
 
     /// What an operator works out from two terms, as the compiler writes it.
-    fn combined(
-        &mut self,
-        operator: Operator,
-        left: TermAt,
-        right: TermAt,
-    ) -> Option<TermAt>
+    fn combined(&mut self, operator: Operator, left: TermAt, right: TermAt) -> Option<TermAt>
         ensures value { IfSome result (λ at. (setting : Setting) (m : Moment) (x y : ℤ)
             → HasValue setting m self.old.list.items left x
             → HasValue setting m self.old.list.items right y

@@ -7,9 +7,9 @@ pub returns-in_ok-right-in-Combined-clause-value :
     goal.returns-in_ok-right-in-Combined-clause-value
 returns-in_ok-right-in-Combined-clause-value t c = if_some _ _ c.combined.result (λ at gives setting m.
     let left : HasValue setting m c.number.new.self.list.items c.in_ok-left-in-Combined.left (value setting m c.in-Combined.left.value)
-        = rw (← c.deref.ensures) (c.in_ok-left-in-Combined.ensures.value setting m) in
+    = rw (← c.deref.ensures) (c.in_ok-left-in-Combined.ensures.value setting m) in
     let right : HasValue setting m c.number-in-Combined.new.self.list.items c.in_ok-right-in-Combined.right (value setting m c.in-Combined.right.value)
-        = rw (← c.deref-in-Combined.ensures) (c.in_ok-right-in-Combined.ensures.value setting m) in
+    = rw (← c.deref-in-Combined.ensures) (c.in_ok-right-in-Combined.ensures.value setting m) in
     let kept = extends_keeps setting m c.number.new.self.list.items c.number-in-Combined.new.self.list.items c.in_ok-left-in-Combined.left
-        (value setting m c.in-Combined.left.value) c.number-in-Combined.ensures.extends left in
+    (value setting m c.in-Combined.left.value) c.number-in-Combined.ensures.extends left in
     rw c.in-Combined.is (gives setting m (value setting m c.in-Combined.left.value) (value setting m c.in-Combined.right.value) kept right)) c.combined.ensures.value
