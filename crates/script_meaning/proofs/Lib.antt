@@ -1,3 +1,7 @@
 pub mod SequenceLaws
 pub mod PartLaws
 pub mod ObjectLaws
+pub mod TermLaws
+pub mod KnowledgeLaws
+pub mod ComputeLaws
+pub mod InstructionLaws
