@@ -1,3 +1,5 @@
 pub mod SequenceLaws
 pub mod PartLaws
 pub mod ObjectLaws
+pub mod TermLaws
+pub mod HiddenLaws
