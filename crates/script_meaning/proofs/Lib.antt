@@ -1,3 +1,4 @@
 pub mod SequenceLaws
+pub mod OpenerLaws
 pub mod PartLaws
 pub mod ObjectLaws

@@ -1,6 +1,6 @@
 -- Code that follows code, and code of one instruction.
-use Rattle.std.proofs.Common.{◌≡◌, ◌≢◌, ℕ, zero, suc, List, [], ◌∷◌, ◌++◌, drop, length, None, Some, slice_get, ◌⊎◌, inl, inr, refl, sym, ◌∙◌, ap, subst, append_assoc}
-use Rattle.client_spec.specs.Syntax.{Constant, Instruction, Statement, plain, opener, loop, Statements, no_more, next}
+use Rattle.std.proofs.Common.{◌≡◌, ℕ, zero, suc, List, [], ◌∷◌, ◌++◌, drop, None, Some, slice_get, ◌⊎◌, inl, inr, refl, sym, ◌∙◌, ap, subst, append_assoc}
+use Rattle.client_spec.specs.Syntax.{Constant, Instruction, plain, Statements, no_more, next}
 use Rattle.client_spec.specs.Machine.{State}
 use Rattle.client_spec.specs.Answer.{Answer, success, is_zero, already_exists, bad_alloc, absent, other_type, out_of_range, null_or_none, numbers_used_up}
 use Rattle.client_spec.specs.Run as run
@@ -10,7 +10,7 @@ use Rattle.client_spec.specs.declared.table.Role.{Role}
 use Rattle.client_spec.specs.Operations.{row_of}
 use Rattle.client_spec.specs.Grammar.{listing, listing_one}
 use Rattle.client_spec.proofs.Runs.InterpreterStepLaws.{then_assoc, then_nothing}
-use Rattle.script_meaning.specs.Meaning.{Moment, World, world_of, Meaning, Stays, Then}
+use Rattle.script_meaning.specs.Meaning.{Moment, world_of, Meaning, Stays, Then}
 use Rattle.script_meaning.specs.Following.{Tie, Simulates, IsCodeFor, HasRoles}
 
 -- ---- code after code
@@ -70,6 +70,17 @@ drop_at [] at i e = absurd (let f : None ≡ Some i = e in cc)
 drop_at (x ∷ L) zero i e = let f : x ≡ i = cc in ap (λ y. y ∷ L) f
 drop_at (x ∷ L) (suc at) i e = drop_at L at i e
 
+-- one way after another
+pub simulates_then : (P Q R : Tie) (first second : Meaning) (one two : Way State) → Simulates P first one Q → Simulates Q second two R → Simulates P (Then first second) (run.Then State one two) R
+simulates_then P Q R first second one two f g = record { each = λ m s s' n e p w. by m s s' n e p w }
+  where
+    by : (m : Moment) (s s' : State) (n : ℕ) (e : Ending) → P m s → run.Then State one two s s' n e
+        → (e ≡ stuck) ⊎ ((m' : Moment) × Then first second m m' e × (m'.world ≡ world_of s') × (e ≡ finished → R m' s'))
+    by m s s' n e p (inl (t, k, l, x, y, h)) = elim (f.each m s t k finished p x) [
+        inl b ↦ absurd (let a : finished ≡ stuck = b in cc)
+      | inr b ↦ elim (g.each b.0 t s' l e (b.3 refl) y) [ inl a ↦ inl a | inr a ↦ inr (a.0, inl (b.0, b.1, a.1), a.2, a.3) ] ]
+    by m s s' n e p (inr (x, h)) = elim (f.each m s s' n e p x) [ inl b ↦ inl b | inr b ↦ inr (b.0, inr (b.1, h), b.2, λ a. absurd (h a)) ]
+
 module _ (constants : List Constant) (L : List Instruction) where
   -- another meaning that the first one implies
   pub other_meaning : (at end : ℕ) (P Q : Tie) (does does' : Meaning) → ((m m' : Moment) (e : Ending) → does m m' e → does' m m' e)
@@ -99,15 +110,11 @@ module _ (constants : List Constant) (L : List Instruction) where
     roles = roles_joined one.code two.code one.roles two.roles;
     spelled = one.spelled ∙ ap (λ x. listing one.code ++ x) two.spelled
         ∙ sym (append_assoc (listing one.code) (listing two.code) (drop end L)) ∙ ap (λ x. x ++ drop end L) (sym (listing_joined one.code two.code));
-    simulates = record { each = λ m s s' n e p w. by m s s' n e p (run_joined State (plain_machine constants) one.code two.code s s' n e w) };
+    simulates = record {
+      each = λ m s s' n e p w. (simulates_then P Q R first second _ _ one.simulates two.simulates).each m s s' n e p
+          (run_joined State (plain_machine constants) one.code two.code s s' n e w);
+    };
   }
-    where
-      by : (m : Moment) (s s' : State) (n : ℕ) (e : Ending) → P m s → run.Then State (Run State (plain_machine constants) one.code) (Run State (plain_machine constants) two.code) s s' n e
-          → (e ≡ stuck) ⊎ ((m' : Moment) × Then first second m m' e × (m'.world ≡ world_of s') × (e ≡ finished → R m' s'))
-      by m s s' n e p (inl (t, k, l, x, y, f)) = elim (one.simulates.each m s t k finished p x) [
-          inl g ↦ absurd (let h : finished ≡ stuck = g in cc)
-        | inr h ↦ elim (two.simulates.each h.0 t s' l e (h.3 refl) y) [ inl g ↦ inl g | inr g ↦ inr (g.0, inl (h.0, h.1, g.1), g.2, g.3) ] ]
-      by m s s' n e p (inr (x, f)) = elim (one.simulates.each m s s' n e p x) [ inl g ↦ inl g | inr h ↦ inr (h.0, inr (h.1, f), h.2, λ g. absurd (f g)) ]
 
   stays_first : (does : Meaning) (m m' : Moment) (e : Ending) → Then Stays does m m' e → does m m' e
   stays_first does m m' e (inl (mid, w, x)) = subst (λ t. does t m' e) w.0 x
@@ -149,10 +156,12 @@ module _ (constants : List Constant) (L : List Instruction) where
         → (m' : Moment) × does m m' finished × (m'.world ≡ world_of s') × Q m' s'
     pub stop : (m : Moment) (s s' : State) → P m s → (plain_machine constants).stop i s s' → (m' : Moment) × does m m' stopped × (m'.world ≡ world_of s')
 
-  one_ends : (i : Instruction) (P Q : Tie) (does : Meaning) → OneDoes i P does Q → (m : Moment) (s s' : State) (e : Ending) → P m s → Ends State (plain_machine constants) i s s' e
+  one_ends : (i : Instruction) (P Q : Tie) (does : Meaning) → OneDoes i P does Q → (m : Moment) (s s' : State) (e : Ending) → P m s
+      → Ends State (plain_machine constants) i s s' e
       → (e ≡ stuck) ⊎ ((m' : Moment) × does m m' e × (m'.world ≡ world_of s') × (e ≡ finished → Q m' s'))
   one_ends i P Q does one m s s' e p (inl (answer, row, f)) = let h = one.row m s s' answer p row in inr (h.0, subst (does m h.0) (sym f) h.1, h.2, λ _. h.3)
-  one_ends i P Q does one m s s' e p (inr (inl (stop, f))) = let h = one.stop m s s' p stop in inr (h.0, subst (does m h.0) (sym f) h.1, h.2, λ g. absurd (let k : stopped ≡ finished = sym f ∙ g in cc))
+  one_ends i P Q does one m s s' e p (inr (inl (stop, f))) =
+      let h = one.stop m s s' p stop in inr (h.0, subst (does m h.0) (sym f) h.1, h.2, λ g. absurd (let k : stopped ≡ finished = sym f ∙ g in cc))
   one_ends i P Q does one m s s' e p (inr (inr f)) = inl f
 
   -- code of one instruction
@@ -162,5 +171,8 @@ module _ (constants : List Constant) (L : List Instruction) where
     code = next (plain i) no_more;
     roles = (one.role, tt);
     spelled = drop_at L at i there;
-    simulates = record { each = λ m s s' n e p w. let h = without_end State (RunOne State (plain_machine constants) (plain i)) s s' n e w in one_ends i P Q does one m s s' e p (plain_ends State (plain_machine constants) i s s' h.0 e h.1) };
+    simulates = record {
+      each = λ m s s' n e p w. let h = without_end State (RunOne State (plain_machine constants) (plain i)) s s' n e w in
+          one_ends i P Q does one m s s' e p (plain_ends State (plain_machine constants) i s s' h.0 e h.1);
+    };
   }
