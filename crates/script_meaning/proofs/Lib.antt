@@ -1,4 +1,5 @@
 pub mod SequenceLaws
+pub mod OpenerLaws
 pub mod PartLaws
 pub mod ObjectLaws
 pub mod TreeLaws
