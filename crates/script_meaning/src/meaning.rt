@@ -43,9 +43,10 @@ fn instructions_of(alloc: Global, client: &Client<'_>) -> Result<Vec<Instruction
 {
     let mut instructions = Vec::with_capacity(alloc, client.instruction_count() as usize)?;
     for at in 0..client.instruction_count() {
-        if let Some(instruction) = client.instruction(at) {
-            instructions.push(instruction)?;
-        }
+        let Some(instruction) = client.instruction(at) else {
+            return Ok(instructions);
+        };
+        instructions.push(instruction)?;
     }
     Ok(instructions)
 }
