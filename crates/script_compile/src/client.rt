@@ -1,11 +1,13 @@
 //! From a program's text to a client, or to lines that tell what is wrong.
 
+use crate::core::core_of;
 use crate::entry::{Translation, translate};
 use crate::failure::{Failure, Wrong};
 use crate::report::Report;
 use crate::variables::VariableChange;
 use client_code::TypeTable;
 use script_code::Warning;
+use script_meaning::has_meaning;
 use script_syntax::{Span, Tree, parse};
 use std::alloc::{AllocError, Global};
 
@@ -20,6 +22,8 @@ pub struct Client {
     pub variables: Vec<VariableChange>,
     /// A line for each warning, with the line of the program and a hint.
     pub warnings: String,
+    /// Whether it is known that the client does what the program says. `None` if the program needs more than the core.
+    pub has_meaning: Option<bool>,
 }
 
 /// Why a program has no client.
@@ -61,7 +65,7 @@ fn client_of_tree(
     report: Report<'_>,
 ) -> Result<Client, Refusal> {
     match translate(alloc, tree, image) {
-        Ok(translation) => Ok(told_client(alloc, translation, report)?),
+        Ok(translation) => Ok(told_client(alloc, tree, translation, report)?),
         Err(Failure::Errors(wrong)) => Err(refused(error_lines(report, &wrong))),
         Err(Failure::Memory) => Err(Refusal::Memory),
     }
@@ -70,6 +74,7 @@ fn client_of_tree(
 /// The client, with its warnings.
 fn told_client(
     alloc: Global,
+    tree: &Tree<'_>,
     translation: Translation,
     report: Report<'_>,
 ) -> Result<Client, AllocError> {
@@ -77,12 +82,26 @@ fn told_client(
         compiled,
         variables,
     } = translation;
+    let bytes = compiled.file(alloc)?;
+    let has_meaning = test_meaning(alloc, tree, bytes.as_slice())?;
     Ok(Client {
-        bytes: compiled.file(alloc)?,
+        bytes,
+        has_meaning,
         lines: lines_of(alloc, compiled.places.as_slice())?,
         variables,
         warnings: warning_lines(report, compiled.warnings.as_slice())?,
     })
+}
+
+/// Whether a client does what a program says. `None` if the program needs more than the core.
+fn test_meaning(alloc: Global, tree: &Tree<'_>, bytes: &[u8]) -> Result<Option<bool>, AllocError> {
+    let Some(program) = core_of(alloc, tree)? else {
+        return Ok(None);
+    };
+    match client_code::parse(bytes) {
+        Ok(client) => Ok(Some(has_meaning(alloc, &program, &client)?)),
+        Err(_) => Ok(Some(false)),
+    }
 }
 
 fn lines_of(alloc: Global, places: &[Span]) -> Result<Vec<usize>, AllocError> {

@@ -6,6 +6,7 @@ mod calls;
 mod client;
 mod compiler;
 mod constructs;
+mod core;
 mod entry;
 mod failure;
 mod loops;

@@ -1,6 +1,11 @@
+pub mod TermLaws
+pub mod KnowledgeLaws
+pub mod InstructionLaws
+pub mod ComputeLaws
 pub mod SequenceLaws
+pub mod OpenerLaws
 pub mod PartLaws
 pub mod ObjectLaws
-pub mod TermLaws
+pub mod HiddenLaws
 pub mod PrintLaws
 pub mod KnowingLaws

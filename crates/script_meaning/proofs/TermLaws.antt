@@ -1,8 +1,8 @@
 -- The values of terms: terms keep their values when others are added.
-use Rattle.std.proofs.Common.{◌≡◌, ℕ, zero, suc, ◌+◌, ◌<◌, ℤ, pos, List, [], ◌∷◌, ◌++◌, length, take, drop, Some, None, Option, IfSome, Bool, true, false, not, ◌&&◌, ◌||◌, slice_get, slice_index_or, refl, sym, ◌∙◌, ap, subst, arith, append_assoc, length-append, length-take}
+use Rattle.std.proofs.Common.{◌≡◌, ℕ, zero, suc, ◌+◌, ◌<◌, ℤ, pos, List, [], ◌∷◌, ◌++◌, length, take, drop, slice_get, slice_index_or, refl, sym, ◌∙◌, ap, subst, arith, append_assoc, length-append, length-take}
 use Rattle.std.proofs.lemmas.Option.{slice_get_within, get_or_from_slice_get}
+use Rattle.std.specs.Prelude.{Option, Some, None, IfSome, Bool, true, false, not, ◌&&◌, ◌||◌}
 use Rattle.std.specs.Int.{w64, int_wrapping_add, int_wrapping_mul}
-use Rattle.std.specs.Prelude.{int_lt}
 use Rattle.seg_spec.specs.Value.{same_int}
 use Rattle.client_spec.specs.Effect.{truth}
 use Rattle.script_meaning.specs.declared.terms.Computation.{Computation}
@@ -115,9 +115,9 @@ module _ (setting : Setting) (m : Moment) (terms : List Term) (at : ℕ) where
       let size = before_length t there in
       let here : i < length (before ++ term_value setting m before t ∷ []) = omega (arith, size, below, length-append before (term_value setting m before t ∷ [])) in
       let kept : slice_get (values_of setting m terms) i ≡ slice_get before i
-          = ap (λ ks. slice_get ks i) (values_are t there)
-          ∙ after_keeps setting m (before ++ term_value setting m before t ∷ []) (drop (suc at) terms) i here
-          ∙ get_front before (term_value setting m before t ∷ []) i (omega (arith, size, below)) in
+      = ap (λ ks. slice_get ks i) (values_are t there)
+      ∙ after_keeps setting m (before ++ term_value setting m before t ∷ []) (drop (suc at) terms) i here
+      ∙ get_front before (term_value setting m before t ∷ []) i (omega (arith, size, below)) in
       get_or_from_slice_get before i k (pos 0) (sym kept ∙ e)
 
   pub literal_value : (k : ℤ) → slice_get terms at ≡ Some (term.Literal k) → HasValue setting m terms at k
@@ -155,10 +155,6 @@ if_some P Q (Some a) each h = each a h
 
 -- ---- operators, as the compiler writes them
 
-not_is : (b : Bool) → truth (same_int (truth b) (pos 0)) ≡ truth (not b)
-not_is true = refl
-not_is false = refl
-
 and_is : (a b : Bool) → truth (same_int (int_wrapping_add w64 (truth a) (truth b)) (pos 0)) ≡ truth (not a && not b)
 and_is true true = refl
 and_is true false = refl
@@ -176,12 +172,3 @@ both_law x y = and_is (same_int x (pos 0)) (same_int y (pos 0))
 
 pub either_law : (x y : ℤ) → truth (same_int (combined (operator_of computation.Multiply) (truth (same_int x (pos 0))) (truth (same_int y (pos 0)))) (pos 0)) ≡ combined operator.Or x y
 either_law x y = or_is (same_int x (pos 0)) (same_int y (pos 0))
-
-pub less_or_equal_law : (x y : ℤ) → truth (same_int (truth (int_lt y x)) (pos 0)) ≡ combined operator.LessOrEqual x y
-less_or_equal_law x y = not_is (int_lt y x)
-
-pub greater_or_equal_law : (x y : ℤ) → truth (same_int (truth (int_lt x y)) (pos 0)) ≡ combined operator.GreaterOrEqual x y
-greater_or_equal_law x y = not_is (int_lt x y)
-
-pub not_equal_law : (x y : ℤ) → truth (same_int (truth (same_int x y)) (pos 0)) ≡ combined operator.NotEqual x y
-not_equal_law x y = not_is (same_int x y)

@@ -1,5 +1,5 @@
 -- What the parts of a comparison find: where code begins that does what a statement says.
-use Rattle.std.specs.Prelude.{◌≡◌, ◌≢◌, ℕ, suc, ◌<◌, ℤ, pos, nat_abs, List, [], ◌∷◌, length, map, Bool, Option, Some, None, slice_get, slice_set, ◌⊎◌}
+use Rattle.std.specs.Prelude.{◌≡◌, ◌≢◌, ℕ, suc, ◌<◌, ℤ, pos, nat_abs, List, [], ◌∷◌, length, map, Bool, Option, Some, None, slice_get, slice_set, ◌⊎◌, ⊤}
 use Rattle.client_spec.specs.Syntax.{Constant, Instruction}
 use Rattle.client_spec.specs.Syntax as syntax
 use Rattle.client_spec.specs.declared.table.Operation.{Operation}
@@ -11,7 +11,8 @@ use Rattle.client_spec.specs.Machine.{State, Register, register}
 use Rattle.client_code.specs.Views.{instruction_of, constants_of}
 use Rattle.script_meaning.specs.declared.comparison.Comparison.{Comparison}
 use Rattle.script_meaning.specs.declared.knowledge.Knowledge.{Knowledge}
-use Rattle.script_meaning.specs.Meaning.{Moment, Setting, name_of, combined, Meaning, Stays}
+use Rattle.script_meaning.specs.Meaning.{Moment, Setting, name_of, combined, Meaning, Stays, Does}
+use Rattle.script_meaning.specs.declared.program.Code.{Code}
 use Rattle.script_meaning.specs.declared.program.Operator.{Operator}
 use Rattle.script_meaning.specs.Following.{Held, Tie, HasValue, Knows, Holds, IsCodeFor}
 
@@ -188,3 +189,7 @@ abbrev pub Computes : Operator → Operation → Type 0
 Computes o op = (constants : List Constant) (a b c : ℕ) (number : ℤ) (room : Bool) (s : State) (x y : ℤ)
     → register s b ≡ Register.Int x → register s c ≡ Register.Int y
     → effect constants op a b c number room s ≡ give a (Register.Int (combined o x y)) s
+
+-- the whole code does what the statements do
+abbrev pub IsWhole : Comparison → Code → Type 0
+IsWhole c code = Follows c 0 (length (code_of c)) (holding []) (Does (setting_of c) code) (λ m s. ⊤)

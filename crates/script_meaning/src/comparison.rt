@@ -3,7 +3,7 @@ ghost use Rattle.std.specs.Prelude.{◌≡◌, ◌∷◌, ◌+◌, ℕ, ℤ, pos
 ghost use Rattle.client_spec.specs.Machine.{State};
 ghost use Rattle.client_spec.specs.Grammar as grammar;
 ghost use Rattle.client_code.specs.Views.{instruction_of};
-ghost use Rattle.script_meaning.specs.Meaning.{Moment, value, Stays, Does};
+ghost use Rattle.script_meaning.specs.Meaning.{Moment, name_of, value, Stays, Does};
 ghost use Rattle.script_meaning.specs.Comparing.{setting_of, knowing, holding, Follows, IsAt, IsAbout, Marks, Computes};
 
 use crate::knowledge::{Held, Knowledge};
@@ -136,9 +136,19 @@ impl Comparison<'_> {
         if constant.kind != ConstantKind::Name {
             return None;
         }
-        self.objects
-            .iter()
-            .position(|name| name.as_slice() == constant.bytes)
+        self.object_named(constant.bytes)
+    }
+
+    /// The object of a name.
+    fn object_named(&self, name: &[u8]) -> Option<usize>
+        ensures { IfSome result (λ x. name_of (setting_of self.now) x ≡ name.now) }
+    {
+        for (x, object) in self.objects.iter().enumerate() {
+            if object.as_slice() == name {
+                return Some(x);
+            }
+        }
+        None
     }
 
     /// The position after code that no one sees, if the registers contain these variables there.

@@ -4,6 +4,8 @@ ghost use Rattle.client_spec.specs.Machine.{State};
 ghost use Rattle.client_code.specs.Views.{instruction_of};
 ghost use Rattle.script_meaning.specs.Meaning.{Moment, Stays};
 ghost use Rattle.client_spec.specs.declared.table.Operation.TheVariants as operation;
+ghost use Rattle.client_spec.specs.declared.table.Role.{Role};
+ghost use Rattle.client_spec.specs.Operations.{row_of};
 ghost use Rattle.script_meaning.specs.Following.{Extends};
 ghost use Rattle.script_meaning.specs.Comparing.{knowing, Follows, IsAt, GivesTerm};
 
@@ -81,6 +83,7 @@ impl Comparison<'_> {
 fn term_of(knowledge: &mut Knowledge, instruction: Instruction) -> Option<TermAt>
     ensures value { IfSome result (λ at. GivesTerm knowledge.old knowledge.new
         (instruction_of instruction) at) }
+    ensures role { IfSome result (λ at. (row_of instruction.operation).role ≡ Role.Plain) }
     ensures registers { knowledge.new.registers ≡ knowledge.old.registers }
     ensures extends { Extends knowledge.old.terms.list.items knowledge.new.terms.list.items }
 {

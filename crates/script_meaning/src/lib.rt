@@ -4,8 +4,10 @@
 mod comparison;
 mod hidden;
 mod knowledge;
+mod meaning;
 mod program;
 mod statements;
 mod terms;
 
+pub use meaning::has_meaning;
 pub use program::{Code, Number, Operator, Program};

@@ -1,5 +1,8 @@
 //! Programs of the core, as trees.
 
+ghost use Rattle.std.specs.Prelude.{◌≡◌, IfSome};
+ghost use Rattle.script_meaning.specs.Meaning.{Moment, Setting, combined, value};
+
 /// What is worked out from two numbers.
 #[derive(Debug, Clone, Copy, PartialEq, Eq)]
 pub enum Operator {
@@ -58,4 +61,41 @@ pub enum Code {
 pub struct Program {
     pub objects: Vec<Vec<u8>>,
     pub code: Code,
+}
+
+impl Operator {
+    /// What is worked out from two numbers.
+    pub fn apply(self, x: i64, y: i64) -> i64
+        ensures { result ≡ combined self x y }
+    {
+        match self {
+            Operator::Add => x.wrapping_add(y),
+            Operator::Subtract => x.wrapping_sub(y),
+            Operator::Multiply => x.wrapping_mul(y),
+            Operator::Less => i64::from(x < y),
+            Operator::LessOrEqual => i64::from(x <= y),
+            Operator::Greater => i64::from(x > y),
+            Operator::GreaterOrEqual => i64::from(x >= y),
+            Operator::Equal => i64::from(x == y),
+            Operator::NotEqual => i64::from(x != y),
+            Operator::And => i64::from(x != 0 && y != 0),
+            Operator::Or => i64::from(x != 0 || y != 0),
+        }
+    }
+}
+
+impl Number {
+    /// The number, if it is the same at every moment.
+    pub fn known(&self) -> Option<i64>
+        ensures { IfSome result (λ k. (setting : Setting) (m : Moment)
+            → value setting m self.now ≡ k) }
+    {
+        match self {
+            Number::Literal(value) => Some(*value),
+            Number::Combined(operator, left, right) => {
+                Some(operator.apply(left.known()?, right.known()?))
+            }
+            Number::Variable(_) | Number::ObjectOr(..) => None,
+        }
+    }
 }

@@ -2,6 +2,7 @@
 ghost use Rattle.std.specs.Prelude.{◌≡◌, [], IfSome, true, pos};
 ghost use Rattle.script_meaning.specs.Meaning.{Moment, Setting, value, or_else, number_of, combined};
 ghost use Rattle.script_meaning.specs.Following.{Extends, HasValue, operator_of};
+ghost use Rattle.script_meaning.specs.declared.terms.Term.TheVariants as term;
 ghost use Rattle.client_spec.specs.Effect.{truth};
 ghost use Rattle.seg_spec.specs.Value.{same_int};
 
@@ -58,12 +59,24 @@ impl Terms {
         }
     }
 
+    /// The position of a term that there is already.
+    fn known(&self, term: Term) -> Option<TermAt>
+        ensures { IfSome result (λ at. slice_get self.now.list.items at ≡ Some term) }
+    {
+        for (at, known) in self.list.iter().enumerate() {
+            if *known == term {
+                return Some(at);
+            }
+        }
+        None
+    }
+
     /// The position of a term, which is added if it is new. `None` if there are too many terms.
     fn position(&mut self, term: Term) -> Option<TermAt>
         ensures there { IfSome result (λ at. slice_get self.new.list.items at ≡ Some term) }
         ensures extends { Extends self.old.list.items self.new.list.items }
     {
-        if let Some(at) = self.list.iter().position(|known| *known == term) {
+        if let Some(at) = self.known(term) {
             return Some(at);
         }
         let at = self.list.len();
@@ -87,12 +100,58 @@ impl Terms {
         self.position(Term::Variable(variable))
     }
 
+    /// The variable of a term that is one.
+    fn variable_at(&self, at: TermAt) -> Option<usize>
+        ensures { IfSome result (λ found. slice_get self.now.list.items at
+            ≡ Some (term.Variable found)) }
+    {
+        match self.list.get(at) {
+            Some(Term::Variable(found)) => Some(*found),
+            _ => None,
+        }
+    }
+
     /// Whether this is the term of a variable.
     pub(crate) fn is_variable(&self, at: TermAt, variable: usize) -> bool
         ensures { result ≡ true → (setting : Setting) (m : Moment)
             → HasValue setting m self.now.list.items at (m.variables variable) }
     {
-        matches!(self.list.get(at), Some(Term::Variable(found)) if *found == variable)
+        match self.variable_at(at) {
+            Some(found) => found == variable,
+            None => false,
+        }
+    }
+
+    /// The number of a term that is a literal.
+    fn literal_at(&self, at: TermAt) -> Option<i64>
+        ensures { IfSome result (λ value. slice_get self.now.list.items at
+            ≡ Some (term.Literal value)) }
+    {
+        match self.list.get(at) {
+            Some(Term::Literal(value)) => Some(*value),
+            _ => None,
+        }
+    }
+
+    /// The term of an instruction that works out a number from two terms.
+    fn worked_out(
+        &mut self,
+        computation: Computation,
+        left: TermAt,
+        right: TermAt,
+    ) -> Option<TermAt>
+        ensures value { IfSome result (λ at. (setting : Setting) (m : Moment) (x y : ℤ)
+            → HasValue setting m self.old.list.items left x
+            → HasValue setting m self.old.list.items right y
+            → HasValue setting m self.new.list.items at (combined (operator_of computation) x y)) }
+        ensures extends { Extends self.old.list.items self.new.list.items }
+    {
+        let at = self.position(Term::Computed(computation, left, right))?;
+        if left < at && right < at {
+            Some(at)
+        } else {
+            None
+        }
     }
 
     /// What is worked out from two terms.
@@ -108,17 +167,9 @@ impl Terms {
             → HasValue setting m self.new.list.items at (combined (operator_of computation) x y)) }
         ensures extends { Extends self.old.list.items self.new.list.items }
     {
-        if let (Some(Term::Literal(x)), Some(Term::Literal(y))) =
-            (self.list.get(left), self.list.get(right))
-        {
-            let value = compute(computation, *x, *y);
-            return self.literal(value);
-        }
-        let at = self.position(Term::Computed(computation, left, right))?;
-        if left < at && right < at {
-            Some(at)
-        } else {
-            None
+        match (self.literal_at(left), self.literal_at(right)) {
+            (Some(x), Some(y)) => self.literal(compute(computation, x, y)),
+            _ => self.worked_out(computation, left, right),
         }
     }
 
@@ -131,11 +182,7 @@ impl Terms {
         ensures extends { Extends self.old.list.items self.new.list.items }
     {
         let at = self.position(Term::ObjectOr(object, default))?;
-        if default < at {
-            Some(at)
-        } else {
-            None
-        }
+        if default < at { Some(at) } else { None }
     }
 
     /// The term that is 1 if a term is 0, and 0 otherwise.
@@ -150,12 +197,7 @@ impl Terms {
     }
 
     /// What an operator works out from two terms, as the compiler writes it.
-    fn combined(
-        &mut self,
-        operator: Operator,
-        left: TermAt,
-        right: TermAt,
-    ) -> Option<TermAt>
+    fn combined(&mut self, operator: Operator, left: TermAt, right: TermAt) -> Option<TermAt>
         ensures value { IfSome result (λ at. (setting : Setting) (m : Moment) (x y : ℤ)
             → HasValue setting m self.old.list.items left x
             → HasValue setting m self.old.list.items right y
@@ -192,7 +234,8 @@ impl Terms {
             → HasValue setting m self.old.list.items left x
             → HasValue setting m self.old.list.items right y
             → HasValue setting m self.new.list.items at (truth (same_int
-            (combined (operator_of computation) (truth (same_int x (pos 0))) (truth (same_int y (pos 0)))) (pos 0)))) }
+            (combined (operator_of computation) (truth (same_int x (pos 0)))
+            (truth (same_int y (pos 0)))) (pos 0)))) }
         ensures extends { Extends self.old.list.items self.new.list.items }
     {
         let left = self.is_zero(left)?;

@@ -1,0 +1,76 @@
+//! Whether a client has the meaning of a program.
+ghost use Rattle.std.specs.Prelude.{◌≡◌, ◌≢◌, [], Ok, Some, true, map, IfOk, IfSome};
+ghost use Rattle.seg_spec.specs.Types.{Form, form_at};
+ghost use Rattle.client_spec.specs.Grammar.{listing};
+ghost use Rattle.client_code.specs.Views.{instruction_of};
+ghost use Rattle.client_code.specs.Clients.{OfTree};
+ghost use Rattle.script_meaning.specs.Following.{Means};
+ghost use Rattle.script_meaning.specs.Comparing.{IsWhole};
+
+use crate::comparison::Comparison;
+use crate::knowledge::{Held, Knowledge};
+use crate::program::Program;
+use client_code::{Client, Instruction, Type, TypeId, TypeTable};
+use std::alloc::{AllocError, Global};
+
+/// Whether a client does what a program of the core says, in the way in which the compiler writes it. If it doesn't, the client
+/// may do the same in another way.
+pub fn has_meaning(
+    alloc: Global,
+    program: &Program,
+    client: &Client<'_>,
+) -> Result<bool, AllocError>
+    ensures { result ≡ Ok true → OfTree client.now (Means program.now) }
+{
+    let Some(int) = int_type(&client.types(), program) else {
+        return Ok(false);
+    };
+    let instructions = instructions_of(alloc, client)?;
+    let constants = client.constants_in(alloc)?;
+    let comparison = Comparison {
+        instructions: instructions.as_slice(),
+        constants: constants.as_slice(),
+        objects: program.objects.as_slice(),
+        int,
+    };
+    Ok(comparison.is_whole(program))
+}
+
+/// All instructions of a client.
+fn instructions_of(alloc: Global, client: &Client<'_>) -> Result<Vec<Instruction>, AllocError>
+    ensures { IfOk result (λ instructions. OfTree client.now (λ tree.
+        map instruction_of instructions.items ≡ listing tree.code)) }
+{
+    let mut instructions = Vec::with_capacity(alloc, client.instruction_count() as usize)?;
+    for at in 0..client.instruction_count() {
+        if let Some(instruction) = client.instruction(at) {
+            instructions.push(instruction)?;
+        }
+    }
+    Ok(instructions)
+}
+
+/// The number of the type `int`, or 0 if a program has no objects.
+fn int_type(types: &TypeTable, program: &Program) -> Option<TypeId>
+    ensures { IfSome result (λ int. program.now.objects.items ≢ [] →
+        form_at types.now int ≡ Some Form.i64) }
+{
+    if program.objects.is_empty() {
+        return Some(0);
+    }
+    (0..types.len() as u8).find(|t| types.kind(*t) == Some(Type::I64))
+}
+
+impl Comparison<'_> {
+    /// Whether the whole code does what the program says.
+    fn is_whole(&self, program: &Program) -> bool
+        ensures { result ≡ true → IsWhole self.now program.now.code }
+    {
+        let mut knowledge = Knowledge::new();
+        let held = Held::nothing();
+        let Some(end) = self.code(&mut knowledge, &program.code, 0, held) else {
+            return false;
+        };
+        self.settled(&mut knowledge, end, &held) == Some(self.instructions.len())
+    }
+}
