@@ -9,3 +9,5 @@ pub mod ObjectLaws
 pub mod HiddenLaws
 pub mod PrintLaws
 pub mod KnowingLaws
+pub mod TreeLaws
+pub mod WholeLaws
