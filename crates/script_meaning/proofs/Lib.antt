@@ -7,5 +7,7 @@ pub mod OpenerLaws
 pub mod PartLaws
 pub mod ObjectLaws
 pub mod HiddenLaws
+pub mod PrintLaws
+pub mod KnowingLaws
 pub mod TreeLaws
 pub mod WholeLaws
