@@ -2,3 +2,4 @@ pub mod SequenceLaws
 pub mod OpenerLaws
 pub mod PartLaws
 pub mod ObjectLaws
+pub mod ArmLaws
