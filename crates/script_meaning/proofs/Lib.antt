@@ -6,8 +6,4 @@ pub mod SequenceLaws
 pub mod OpenerLaws
 pub mod PartLaws
 pub mod ObjectLaws
-pub mod HiddenLaws
-pub mod PrintLaws
-pub mod KnowingLaws
-pub mod TreeLaws
-pub mod WholeLaws
+pub mod ArmLaws
