@@ -1,3 +1,5 @@
 pub mod SequenceLaws
 pub mod PartLaws
+pub mod QuietRunLaws
+pub mod ObjectRowLaws
 pub mod ObjectLaws

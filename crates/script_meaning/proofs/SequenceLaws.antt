@@ -6,6 +6,8 @@ use Rattle.client_spec.specs.Answer.{Answer, success}
 use Rattle.client_spec.specs.Run as run
 use Rattle.client_spec.specs.Run.{Ending, finished, stopped, stuck, Way, Run, Performs}
 use Rattle.client_spec.specs.Plain.{plain_machine}
+use Rattle.client_spec.specs.declared.table.Role.{Role}
+use Rattle.client_spec.specs.Operations.{row_of}
 use Rattle.client_spec.specs.Grammar.{listing}
 use Rattle.script_meaning.specs.Meaning.{Moment, World, world_of, Meaning, Stays, Then}
 use Rattle.script_meaning.specs.Following.{Tie, Simulates, IsCodeFor}
@@ -42,6 +44,7 @@ module _ (constants : List Constant) (L : List Instruction) where
 
   -- what an instruction does in a state where the tie holds
   pub record OneDoes (i : Instruction) (P : Tie) (does : Meaning) (Q : Tie) : Type 0 where
+    pub role : (row_of i.operation).role ≡ Role.Plain
     pub row : (m : Moment) (s s' : State) (answer : Answer) → P m s → (plain_machine constants).row i s answer s'
         → (m' : Moment) × does m m' finished × (m'.world ≡ world_of s') × Q m' s'
     pub stop : (m : Moment) (s s' : State) → P m s → (plain_machine constants).stop i s s' → (m' : Moment) × does m m' stopped × (m'.world ≡ world_of s')

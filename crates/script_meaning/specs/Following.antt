@@ -3,9 +3,11 @@
 --     Holds held m s                       these registers contain these variables
 --     Simulates P does way Q               each run of the way does this, from P to Q
 --     IsCodeFor .. at end P does Q         the instructions from `at` to before `end` do this
-use Rattle.std.specs.Prelude.{◌≡◌, ◌≢◌, ℕ, ◌<◌, ℤ, pos, List, [], ◌∷◌, ◌++◌, length, map, drop, Option, Some, None, slice_get, slice_index_or, ◌⊎◌}
+use Rattle.std.specs.Prelude.{⊤, ◌≡◌, ◌≢◌, ℕ, ◌<◌, ℤ, pos, List, [], ◌∷◌, ◌++◌, length, map, drop, Option, Some, None, slice_get, slice_index_or, ◌⊎◌}
 use Rattle.seg_spec.specs.Types.{Form, form_at}
-use Rattle.client_spec.specs.Syntax.{Constant, Instruction, Statements, Client}
+use Rattle.client_spec.specs.Syntax.{Constant, Instruction, Statement, plain, opener, loop, Statements, no_more, next, Client}
+use Rattle.client_spec.specs.declared.table.Role.{Role}
+use Rattle.client_spec.specs.Operations.{row_of}
 use Rattle.client_spec.specs.Machine.{Register, State, register}
 use Rattle.client_spec.specs.Run.{Ending, finished, stuck, Way, Run}
 use Rattle.client_spec.specs.Plain.{plain_machine}
@@ -89,10 +91,23 @@ pub record Simulates (P : Tie) (does : Meaning) (way : Way State) (Q : Tie) : Ty
       (end ≡ stuck) ⊎ ((m' : Moment) × does m m' end × (m'.world ≡ world_of s')
       × (end ≡ finished → Q m' s'))
 
+abbrev mutual
+  -- each instruction has the role of its statement
+  pub HasRoles : Statements → Type 0
+  HasRoles no_more = ⊤
+  HasRoles (next c cs) = HasRole c × HasRoles cs
+
+  pub HasRole : Statement → Type 0
+  HasRole (plain i) = (row_of i.operation).role ≡ Role.Plain
+  HasRole (opener i on_success on_code) =
+      ((row_of i.operation).role ≡ Role.Opener) × HasRoles on_success × HasRoles on_code
+  HasRole (loop i body) = ((row_of i.operation).role ≡ Role.Loop) × HasRoles body
+
 -- The instructions from `at` to before `end` are code that does this.
 pub record IsCodeFor (constants : List Constant) (instructions : List Instruction)
     (at end : ℕ) (P : Tie) (does : Meaning) (Q : Tie) : Type 0 where
   pub code : Statements
+  pub roles : HasRoles code
   pub spelled : drop at instructions ≡ listing code ++ drop end instructions
   pub simulates : Simulates P does (Run State (plain_machine constants) code) Q
 
