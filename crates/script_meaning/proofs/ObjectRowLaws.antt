@@ -1,6 +1,6 @@
 -- The rows of instructions that find, change and destroy objects of type int.
-use Rattle.std.proofs.Common.{◌≡◌, ◌≢◌, ℕ, zero, suc, ◌<◌, ℤ, pos, List, [], ◌∷◌, length, Bool, true, false, Option, Some, None, slice_get, slice_set, ◌⊎◌, inl, inr, refl, sym, ◌∙◌, ap, subst, arith}
-use Rattle.std.specs.Prelude.{◌==◌, if◌then◌else◌, slice_index_or}
+use Rattle.std.proofs.Common.{◌≡◌, ◌≢◌, ℕ, zero, suc, ◌<◌, ℤ, pos, List, [], ◌∷◌, length, Bool, true, false, Option, Some, None, slice_get, slice_set, ◌⊎◌, inl, inr, refl, sym, ◌∙◌, ap, subst, arith, eq-eqb, lt-ltb}
+use Rattle.std.specs.Prelude.{nat_lt, ◌==◌, if◌then◌else◌, slice_index_or}
 use Rattle.std.specs.Option.{option_map_or}
 use Rattle.std.proofs.lemmas.List.{get_or-set_same, get_or-set_other}
 use Rattle.seg_spec.specs.Value.{Value, Int, Values, nil, cons, nth, count, copies, default_of, value_at, with_value_at}
@@ -14,6 +14,7 @@ use Rattle.client_spec.specs.Answer.{constant_operand, constant_name, type_opera
 use Rattle.client_spec.specs.Effect.{effect, outcome, find_or_add, item_of_object, destroy_object}
 use Rattle.client_spec.proofs.TypedStates.ValueLaws.{Some_inj, bind_some, length_set}
 use Rattle.client_spec.proofs.TypedStates.StateLaws.{name_there}
+use Rattle.client_spec.specs.Run.{Ending}
 use Rattle.script_meaning.specs.Meaning.{World, world_of, Moment, Setting, name_of, number_in, number_of, with_number, with_object, Meaning, Chosen, Changes, ByObject, Stores, Found, IfObject, without, Deletes}
 use Rattle.script_meaning.specs.Following.{Held, Holds}
 use Rattle.script_meaning.specs.Comparing.{IsFree}
@@ -183,3 +184,246 @@ module _ (constants : List Constant) (i : Instruction) (s : State) (name : List 
       kept : (o : Option Object) → (option_map_or (λ (o : Object). record (world_of s) { names = with_name (world_of s).names name (Some (replace_item 0 (Int k) o)) }) o (world_of s)).output ≡ s.output
       kept None = refl
       kept (Some o) = refl
+
+-- ---- FINDOR
+
+module _ (setting : Setting) (x : ℕ) (new : Moment → ℤ → ℤ) (otherwise : Meaning) where
+  abbrev the_name : List ℕ
+  the_name = name_of setting x
+
+  by_object : (m m' : Moment) (end : Ending) (o : Option Object) → m.world.names the_name ≡ o → ByObject setting x (new m) otherwise o m m' end → Stores setting x new otherwise m m' end
+  by_object m m' end o e h = subst (λ (o : Option Object). ByObject setting x (new m) otherwise o m m' end) (sym e) h
+
+  -- Register a refers to the object. In the state before it got the reference, `base`, there is the object, and it is of type int.
+  pub record Ready (a : ℕ) (s mid : State) : Type 0 where
+    pub base : State
+    pub registers : base.registers ≡ s.registers
+    pub output : base.output ≡ s.output
+    pub typed : (o : Object) → base.names the_name ≡ Some o → (o.type == setting.int) ≡ true
+    pub mid_is : mid ≡ set_register base a (Register.Reference (place the_name))
+    pub means : (m m' : Moment) (end : Ending) → m.world ≡ world_of s → Changes setting x (new m) (world_of base) m m' end → Stores setting x new otherwise m m' end
+
+  -- register a has a code
+  pub record Refused (a : ℕ) (s mid : State) : Type 0 where
+    pub code : ℤ
+    pub mid_is : mid ≡ set_register s a (Register.Int code)
+    pub means : (m m' : Moment) (end : Ending) → m.world ≡ world_of s → otherwise m m' end → Stores setting x new otherwise m m' end
+
+  abbrev pub FindsOr : ℕ → State → Answer → State → Type 0
+  FindsOr a s answer mid = ((answer ≡ success) × Ready a s mid) ⊎ ((answer ≢ success) × Refused a s mid)
+
+  refused : (a : ℕ) (s : State) (code c : Answer) (mid : State) → code ≢ success → Answered code a (Register.Int (pos (answer_number code))) s c mid
+      → ((m m' : Moment) (end : Ending) → m.world ≡ world_of s → otherwise m m' end → Stores setting x new otherwise m m' end) → FindsOr a s c mid
+  refused a s code c mid ne h means = inr (λ e. ne (sym h.code_is ∙ e), record { code = pos (answer_number code); mid_is = h.state_is; means = means })
+
+  finds_none : (a : ℕ) (s : State) (room : Bool) (c : Answer) (mid : State) → s.names the_name ≡ None → find_or_add a the_name setting.int None room s ≡ Some (c, mid) → FindsOr a s c mid
+  finds_none a s true c mid none e =
+      let made : Option Object = Some (record { type = setting.int; values = copies 1 (default_of s.types setting.int) }) in
+      let base : State = record s { names = with_name s.names the_name made } in
+      let h = answered success a (Register.Reference (place the_name)) base c mid e in
+      inl (h.code_is, record {
+        base = base;
+        registers = refl;
+        output = refl;
+        typed = λ o f. (
+          let g : made ≡ Some o = sym (name_there s.names the_name made) ∙ f in
+          ap (λ (y : Object). y.type == setting.int) (sym (Some_inj g)) ∙ eq-eqb setting.int setting.int refl
+        );
+        mid_is = h.state_is;
+        means = λ m m' end w changes. by_object m m' end None (ap (λ (w : World). w.names the_name) w ∙ none)
+            (inl (subst (λ (w : World). Changes setting x (new m) (with_object setting.int the_name w) m m' end) (sym w) changes));
+      })
+  finds_none a s false c mid none e =
+      refused a s bad_alloc c mid (λ q. cc) (answered bad_alloc a (Register.Int (pos (answer_number bad_alloc))) s c mid e)
+      (λ m m' end w other. by_object m m' end None (ap (λ (w : World). w.names the_name) w ∙ none) (inr other))
+
+  finds_some : (a : ℕ) (s : State) (c : Answer) (mid : State) (o : Object) → s.names the_name ≡ Some o → (b : Bool) → (o.type == setting.int) ≡ b
+      → (if b then refer a (place the_name) s else fail a other_type s) ≡ Some (c, mid) → FindsOr a s c mid
+  finds_some a s c mid o there true is e =
+      let h = answered success a (Register.Reference (place the_name)) s c mid e in
+      inl (h.code_is, record {
+        base = s;
+        registers = refl;
+        output = refl;
+        typed = λ o' f. (
+          let g : Some o ≡ Some o' = sym there ∙ f in
+          ap (λ (y : Object). y.type == setting.int) (sym (Some_inj g)) ∙ is
+        );
+        mid_is = h.state_is;
+        means = λ m m' end w changes. by_object m m' end (Some o) (ap (λ (w : World). w.names the_name) w ∙ there)
+            (subst (λ (b : Bool). Chosen b (Changes setting x (new m) m.world m m' end) (otherwise m m' end)) (sym is) (subst (λ (w : World). Changes setting x (new m) w m m' end) (sym w) changes));
+      })
+  finds_some a s c mid o there false is e =
+      refused a s other_type c mid (λ q. cc) (answered other_type a (Register.Int (pos (answer_number other_type))) s c mid e)
+      (λ m m' end w other. by_object m m' end (Some o) (ap (λ (w : World). w.names the_name) w ∙ there)
+      (subst (λ (b : Bool). Chosen b (Changes setting x (new m) m.world m m' end) (otherwise m m' end)) (sym is) other))
+
+  finds_by : (a : ℕ) (s : State) (room : Bool) (c : Answer) (mid : State) (o : Option Object) → s.names the_name ≡ o → find_or_add a the_name setting.int o room s ≡ Some (c, mid) → FindsOr a s c mid
+  finds_by a s room c mid None there e = finds_none a s room c mid there e
+  finds_by a s room c mid (Some o) there e = finds_some a s c mid o there (o.type == setting.int) refl (ap (λ (b : Bool). if b then refer a (place the_name) s else fail a other_type s) refl ∙ e)
+
+  -- the object that an instruction names
+  pub record Names (constants : List Constant) (i : Instruction) : Type 0 where
+    pub type : type_operand i.number ≡ setting.int
+    pub constant : slice_get constants (constant_operand i.number) ≡ Some (syntax.Constant.Name the_name)
+
+  module _ (constants : List Constant) (i : Instruction) (s : State) (names : Names constants i) where
+    name_is : (slice_get constants (constant_operand i.number) >>= λ (k : Constant). constant_name k (register s i.b)) ≡ Some the_name
+    name_is = ap (λ (o : Option Constant). o >>= λ (k : Constant). constant_name k (register s i.b)) names.constant
+
+    pub finds_or : i.operation ≡ operation.FindOrMake → (room : Bool) (c : Answer) (mid : State) → outcome constants i room s ≡ Some (c, mid) → FindsOr i.a s c mid
+    unfolding effect
+    finds_or is room c mid e =
+        let f : ((slice_get constants (constant_operand i.number) >>= λ (k : Constant). constant_name k (register s i.b)) >>= λ (n : List ℕ). find_or_add i.a n (type_operand i.number) (s.names n) room s) ≡ Some (c, mid) =
+            ap (λ (op : Operation). effect constants op i.a i.b i.c i.number room s) (sym is) ∙ e in
+        finds_by i.a s room c mid (s.names the_name) refl
+        (ap (λ (t : ℕ). find_or_add i.a the_name t (s.names the_name) room s) (sym names.type)
+        ∙ ap (λ (o : Option (List ℕ)). o >>= λ (n : List ℕ). find_or_add i.a n (type_operand i.number) (s.names n) room s) (sym name_is) ∙ f)
+
+    pub find_quiet : i.operation ≡ operation.FindOrMake → Quiet constants i s
+    find_quiet is = record {
+      same = λ room c mid e. (elim (finds_or is room c mid e) [
+        | inl r ↦ ap (λ (t : State). t.output) r.1.mid_is ∙ r.1.output
+        | inr r ↦ ap (λ (t : State). t.output) r.1.mid_is
+      ]);
+      no_freeze = λ f. (let g : operation.FindOrMake ≡ operation.Freeze = sym is ∙ f in cc);
+    }
+
+-- ---- FIND
+
+module _ (setting : Setting) (x : ℕ) where
+  abbrev the_name' : List ℕ
+  the_name' = name_of setting x
+
+  -- register a refers to the object, which is of type int
+  pub record IsFound (a : ℕ) (s mid : State) : Type 0 where
+    pub mid_is : mid ≡ set_register s a (Register.Reference (place the_name'))
+    pub typed : (o : Object) → s.names the_name' ≡ Some o → (o.type == setting.int) ≡ true
+
+  -- there is no such number
+  pub record IsAbsent (a : ℕ) (s mid : State) : Type 0 where
+    pub code : ℤ
+    pub mid_is : mid ≡ set_register s a (Register.Int code)
+    pub none : number_of setting (world_of s) x ≡ None
+
+  abbrev pub Finds : ℕ → State → Answer → State → Type 0
+  Finds a s answer mid = ((answer ≡ success) × IsFound a s mid) ⊎ ((answer ≢ success) × IsAbsent a s mid)
+
+  absent_by : (a : ℕ) (s : State) (code c : Answer) (mid : State) → code ≢ success → Answered code a (Register.Int (pos (answer_number code))) s c mid
+      → number_of setting (world_of s) x ≡ None → Finds a s c mid
+  absent_by a s code c mid ne h none = inr (λ e. ne (sym h.code_is ∙ e), record { code = pos (answer_number code); mid_is = h.state_is; none = none })
+
+  item_by : (a : ℕ) (s : State) (c : Answer) (mid : State) (o : Object) → s.names the_name' ≡ Some o → (o.type == setting.int) ≡ true → (vs : Values) → o.values ≡ vs
+      → option_map_or (λ (i : ℕ). refer a (path_from (Origin.Name the_name' i)) s) (index_below (count vs) (pos 0)) (fail a out_of_range s) ≡ Some (c, mid) → Finds a s c mid
+  item_by a s c mid o there is nil values e =
+      absent_by a s out_of_range c mid (λ q. cc) (answered out_of_range a (Register.Int (pos (answer_number out_of_range))) s c mid e)
+      (ap (number_in setting.int) there ∙ ap (λ (b : Bool). if b then nth o.values 0 >>= int_in else None) is ∙ ap (λ (vs : Values). nth vs 0 >>= int_in) values)
+  item_by a s c mid o there is (cons v vs) values e =
+      let more : 0 < count (cons v vs) = omega arith in
+      let is_more : nat_lt 0 (count (cons v vs)) ≡ true = lt-ltb 0 (count (cons v vs)) more in
+      let f : refer a (place the_name') s ≡ Some (c, mid) =
+          ap (λ (b : Bool). option_map_or (λ (i : ℕ). refer a (path_from (Origin.Name the_name' i)) s) (if b then Some 0 else None) (fail a out_of_range s)) (sym is_more) ∙ e in
+      let h = answered success a (Register.Reference (place the_name')) s c mid f in
+      inl (h.code_is, record {
+        mid_is = h.state_is;
+        typed = λ o' f. (
+          let g : Some o ≡ Some o' = sym there ∙ f in
+          ap (λ (y : Object). y.type == setting.int) (sym (Some_inj g)) ∙ is
+        );
+      })
+
+  item_some : (a : ℕ) (s : State) (c : Answer) (mid : State) (o : Object) → s.names the_name' ≡ Some o → (b : Bool) → (o.type == setting.int) ≡ b
+      → (if b then option_map_or (λ (i : ℕ). refer a (path_from (Origin.Name the_name' i)) s) (index_below (count o.values) (pos 0)) (fail a out_of_range s) else fail a other_type s) ≡ Some (c, mid)
+      → Finds a s c mid
+  item_some a s c mid o there true is e = item_by a s c mid o there is o.values refl e
+  item_some a s c mid o there false is e =
+      absent_by a s other_type c mid (λ q. cc) (answered other_type a (Register.Int (pos (answer_number other_type))) s c mid e)
+      (ap (number_in setting.int) there ∙ ap (λ (b : Bool). if b then nth o.values 0 >>= int_in else None) is)
+
+  finds_item : (a : ℕ) (s : State) (c : Answer) (mid : State) (o : Option Object) → s.names the_name' ≡ o → item_of_object a the_name' setting.int (pos 0) o s ≡ Some (c, mid) → Finds a s c mid
+  finds_item a s c mid None there e =
+      absent_by a s absent c mid (λ q. cc) (answered absent a (Register.Int (pos (answer_number absent))) s c mid e) (ap (number_in setting.int) there)
+  finds_item a s c mid (Some o) there e = item_some a s c mid o there (o.type == setting.int) refl e
+
+  -- ---- KILL
+
+  -- register a has whether there was an object, and there is none now
+  pub record Destroys (a : ℕ) (s mid : State) : Type 0 where
+    pub base : State
+    pub code : ℤ
+    pub registers : base.registers ≡ s.registers
+    pub output : base.output ≡ s.output
+    pub world : world_of base ≡ without setting.int the_name' (s.names the_name') (world_of s)
+    pub mid_is : mid ≡ set_register base a (Register.Int code)
+
+  destroys_some : (a : ℕ) (s : State) (c : Answer) (mid : State) (o : Object) → s.names the_name' ≡ Some o → (b : Bool) → (o.type == setting.int) ≡ b
+      → (if b then give a (Register.Int (pos 1)) (record s { names = with_name s.names the_name' None }) else give a (Register.Int (pos 0)) s) ≡ Some (c, mid)
+      → Destroys a s mid
+  destroys_some a s c mid o there true is e = record {
+    base = record s { names = with_name s.names the_name' None };
+    code = pos 1;
+    registers = refl;
+    output = refl;
+    world = sym (ap (λ (o : Option Object). without setting.int the_name' o (world_of s)) there
+        ∙ ap (λ (b : Bool). if b then record (world_of s) { names = with_name (world_of s).names the_name' None } else world_of s) is);
+    mid_is = (answered success a (Register.Int (pos 1)) (record s { names = with_name s.names the_name' None }) c mid e).state_is;
+  }
+  destroys_some a s c mid o there false is e = record {
+    base = s;
+    code = pos 0;
+    registers = refl;
+    output = refl;
+    world = sym (ap (λ (o : Option Object). without setting.int the_name' o (world_of s)) there
+        ∙ ap (λ (b : Bool). if b then record (world_of s) { names = with_name (world_of s).names the_name' None } else world_of s) is);
+    mid_is = (answered success a (Register.Int (pos 0)) s c mid e).state_is;
+  }
+
+  destroys_by : (a : ℕ) (s : State) (c : Answer) (mid : State) (o : Option Object) → s.names the_name' ≡ o → destroy_object a the_name' setting.int o s ≡ Some (c, mid) → Destroys a s mid
+  destroys_by a s c mid None there e = record {
+    base = s;
+    code = pos 0;
+    registers = refl;
+    output = refl;
+    world = sym (ap (λ (o : Option Object). without setting.int the_name' o (world_of s)) there);
+    mid_is = (answered success a (Register.Int (pos 0)) s c mid e).state_is;
+  }
+  destroys_by a s c mid (Some o) there e = destroys_some a s c mid o there (o.type == setting.int) refl e
+
+  module _ (constants : List Constant) (i : Instruction) (s : State) (type : type_operand i.number ≡ setting.int)
+      (constant : slice_get constants (constant_operand i.number) ≡ Some (syntax.Constant.Name the_name')) where
+    the_name_is : (slice_get constants (constant_operand i.number) >>= λ (k : Constant). constant_name k (register s i.b)) ≡ Some the_name'
+    the_name_is = ap (λ (o : Option Constant). o >>= λ (k : Constant). constant_name k (register s i.b)) constant
+
+    pub finds : i.operation ≡ operation.Find → i.c ≡ 16 → (room : Bool) (c : Answer) (mid : State) → outcome constants i room s ≡ Some (c, mid) → Finds i.a s c mid
+    unfolding effect
+    finds is first room c mid e =
+        let f : ((slice_get constants (constant_operand i.number) >>= λ (k : Constant). constant_name k (register s i.b)) >>= λ (n : List ℕ). integer_or (pos 0) i.c s >>= λ (y : ℤ). item_of_object i.a n (type_operand i.number) y (s.names n) s) ≡ Some (c, mid) =
+            ap (λ (op : Operation). effect constants op i.a i.b i.c i.number room s) (sym is) ∙ e in
+        finds_item i.a s c mid (s.names the_name') refl
+        (ap (λ (t : ℕ). item_of_object i.a the_name' t (pos 0) (s.names the_name') s) (sym type)
+        ∙ ap (λ (r : ℕ). integer_or (pos 0) r s >>= λ (y : ℤ). item_of_object i.a the_name' (type_operand i.number) y (s.names the_name') s) (sym first)
+        ∙ ap (λ (o : Option (List ℕ)). o >>= λ (n : List ℕ). integer_or (pos 0) i.c s >>= λ (y : ℤ). item_of_object i.a n (type_operand i.number) y (s.names n) s) (sym the_name_is) ∙ f)
+
+    pub finds_quiet : i.operation ≡ operation.Find → i.c ≡ 16 → Quiet constants i s
+    finds_quiet is first = record {
+      same = λ room c mid e. (elim (finds is first room c mid e) [
+        | inl r ↦ ap (λ (t : State). t.output) r.1.mid_is
+        | inr r ↦ ap (λ (t : State). t.output) r.1.mid_is
+      ]);
+      no_freeze = λ f. (let g : operation.Find ≡ operation.Freeze = sym is ∙ f in cc);
+    }
+
+    pub destroys : i.operation ≡ operation.Kill → (room : Bool) (c : Answer) (mid : State) → outcome constants i room s ≡ Some (c, mid) → Destroys i.a s mid
+    unfolding effect
+    destroys is room c mid e =
+        let f : ((slice_get constants (constant_operand i.number) >>= λ (k : Constant). constant_name k (register s i.b)) >>= λ (n : List ℕ). destroy_object i.a n (type_operand i.number) (s.names n) s) ≡ Some (c, mid) =
+            ap (λ (op : Operation). effect constants op i.a i.b i.c i.number room s) (sym is) ∙ e in
+        destroys_by i.a s c mid (s.names the_name') refl
+        (ap (λ (t : ℕ). destroy_object i.a the_name' t (s.names the_name') s) (sym type)
+        ∙ ap (λ (o : Option (List ℕ)). o >>= λ (n : List ℕ). destroy_object i.a n (type_operand i.number) (s.names n) s) (sym the_name_is) ∙ f)
+
+    pub kill_quiet : i.operation ≡ operation.Kill → Quiet constants i s
+    kill_quiet is = record {
+      same = λ room c mid e. (let d = destroys is room c mid e in ap (λ (t : State). t.output) d.mid_is ∙ d.output);
+      no_freeze = λ f. (let g : operation.Kill ≡ operation.Freeze = sym is ∙ f in cc);
+    }
