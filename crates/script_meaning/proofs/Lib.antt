@@ -5,5 +5,7 @@ pub mod ComputeLaws
 pub mod SequenceLaws
 pub mod OpenerLaws
 pub mod PartLaws
+pub mod QuietRunLaws
+pub mod ObjectRowLaws
 pub mod ObjectLaws
 pub mod ArmLaws

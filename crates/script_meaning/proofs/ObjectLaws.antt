@@ -24,7 +24,7 @@ pub change_law : (c : Comparison) (at other end after x : ℕ) (held : Held) (o 
 change_law c at other end after x held o op number otherwise computes opened inside ended = ?
 
 pub object_law : (c : Comparison) (at body end other end' after v x r : ℕ) (held : Held) (on_true on_false : Meaning)
-    → OpensObject c at body held x r
+    → OpensObject c at body held v x r
     → Follows c body end (holding (slice_set held r (Some v))) on_true (holding (slice_set held r (Some v)))
     → Marks c end other operation.Else (holding held) (holding held) → Follows c other end' (holding held) on_false (holding held)
     → Marks c end' after operation.End (holding held) (holding held)

@@ -157,13 +157,15 @@ pub record OpensChange (c : Comparison) (at other : ℕ) (held : Held) (x : ℕ)
   pub changes : ChangesPlace find.a load compute store op
   pub free : IsFree held find.a
   pub load_free : IsFree held load.a
+  pub load_exists : load.a < 16
   pub apart : find.a ≢ load.a
   pub find_apart : find.a ≢ compute.c
   pub load_apart : load.a ≢ compute.c
   pub after : other ≡ suc (suc (suc (suc (suc start))))
 
--- After code that no one sees, there are FIND and LOAD, which gives register r the number.
-pub record OpensObject (c : Comparison) (at body : ℕ) (held : Held) (x : ℕ) (r : ℕ) : Type 0 where
+-- After code that no one sees, there are FIND and LOAD, which gives register r the number. No
+-- register contains the variable v, so it can be in r alone.
+pub record OpensObject (c : Comparison) (at body : ℕ) (held : Held) (v x : ℕ) (r : ℕ) : Type 0 where
   pub start : ℕ
   pub find : Instruction
   pub load : Instruction
@@ -178,6 +180,8 @@ pub record OpensObject (c : Comparison) (at body : ℕ) (held : Held) (x : ℕ) 
   pub gives : load.a ≡ r
   pub free : IsFree held find.a
   pub load_free : IsFree held r
+  pub load_exists : r < 16
+  pub new : (q : ℕ) → slice_get held q ≡ Some (Some v) → ⊥
   pub after : body ≡ suc (suc start)
 
 -- a variable has a register

@@ -85,7 +85,7 @@ impl Comparison<'_> {
                 self.code(knowledge, rest, after, held)
             }
             Code::IfObject(variable, object, on_found, on_absent, rest) => {
-                let opened = self.open_object(knowledge, *object, at, &held)?;
+                let opened = self.open_object(knowledge, *variable, *object, at, &held)?;
                 let inside = held.with(opened.register, *variable);
                 let end = self.code(knowledge, on_found, opened.body, inside)?;
                 let other = self.marked(knowledge, Operation::Else, end, &held)?;

@@ -48,6 +48,13 @@ impl Held {
         matches!(self.variables.get(usize::from(register)), Some(Some(found)) if *found == variable)
     }
 
+    /// Whether no register contains this variable.
+    pub(crate) fn lacks(&self, variable: usize) -> bool
+        ensures { result ≡ true → (r : ℕ) → slice_get self.now.variables r ≡ Some (Some variable) → ⊥ }
+    {
+        self.variables.iter().all(|found| *found != Some(variable))
+    }
+
     /// Also a variable in this register.
     pub(crate) fn with(self, register: u8, variable: usize) -> Held
         ensures { result.variables ≡ slice_set self.variables register (Some variable) }

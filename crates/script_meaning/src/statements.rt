@@ -307,16 +307,17 @@ impl Comparison<'_> {
         self.mark(Operation::Else, store_at.checked_add(1)?)
     }
 
-    /// Where a part begins in which a variable has an object's number: after `FIND` and `LOAD`.
+    /// Where a part begins in which a new variable has an object's number: after `FIND` and `LOAD`.
     pub(crate) fn open_object(
         &self,
         knowledge: &mut Knowledge,
+        variable: usize,
         object: usize,
         at: usize,
         held: &Held,
     ) -> Option<Opened>
         ensures { IfSome result (λ opened. OpensObject self.now at opened.body
-            held.now.variables object opened.register) }
+            held.now.variables variable object opened.register) }
     {
         let start = self.settled(knowledge, at, held)?;
         let find = self.instruction(start)?;
@@ -328,7 +329,8 @@ impl Comparison<'_> {
             && load.operation == Operation::Load
             && load.b == find.a
             && held.is_free(find.a)
-            && held.is_free(load.a);
+            && held.is_free(load.a)
+            && held.lacks(variable);
         if !is_right {
             return None;
         }
