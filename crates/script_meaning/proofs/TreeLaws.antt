@@ -39,12 +39,12 @@ module _ (types : Table) (constants : List Constant) where
 
     statement_valid : (c : Statement) → IsStatement types constants c → All IsValid (listing_one c)
     statement_valid (plain i) h = All-cons IsValid i [] (valid i Role.Plain h) (All-nil IsValid)
-    statement_valid (opener i a b) h = All-cons IsValid i (listing a ++ mark operation.Else ∷ listing b ++ mark operation.End ∷ []) (valid i Role.Opener h.0)
-        (All-append IsValid (listing a) (mark operation.Else ∷ listing b ++ mark operation.End ∷ []) (code_valid a h.1)
-        (All-cons IsValid (mark operation.Else) (listing b ++ mark operation.End ∷ []) (inl refl)
-        (All-append IsValid (listing b) (mark operation.End ∷ []) (code_valid b h.2) ending)))
-    statement_valid (loop i a) h = All-cons IsValid i (listing a ++ mark operation.End ∷ []) (valid i Role.Loop h.0)
-        (All-append IsValid (listing a) (mark operation.End ∷ []) (code_valid a h.1) ending)
+    statement_valid (opener i a b) h =
+        All-append IsValid ((i ∷ listing a) ++ (mark operation.Else ∷ listing b)) (mark operation.End ∷ [])
+        (All-append IsValid (i ∷ listing a) (mark operation.Else ∷ listing b) (All-cons IsValid i (listing a) (valid i Role.Opener h.0) (code_valid a h.1))
+        (All-cons IsValid (mark operation.Else) (listing b) (inl refl) (code_valid b h.2))) ending
+    statement_valid (loop i a) h =
+        All-append IsValid (i ∷ listing a) (mark operation.End ∷ []) (All-cons IsValid i (listing a) (valid i Role.Loop h.0) (code_valid a h.1)) ending
 
   role_by : (i j : Instruction) (role : Role) → (row_of i.operation).role ≡ role → i ≡ j → role ≡ (row_of j.operation).role
   role_by i j role e m = sym e ∙ ap (λ (k : Instruction). (row_of k.operation).role) m
@@ -73,18 +73,17 @@ module _ (types : Table) (constants : List Constant) where
 
     has_statement : (c : Statement) → HasRole c → All IsValid (listing_one c) → IsStatement types constants c
     has_statement (plain i) role all = as_plain i role (All-head IsValid i [] all)
-    has_statement (opener i a b) role all = (
-      as_opener i role.0 (All-head IsValid i (listing a ++ mark operation.Else ∷ listing b ++ mark operation.End ∷ []) all),
-      has_code a role.1 (all_before IsValid (listing a) (mark operation.Else ∷ listing b ++ mark operation.End ∷ []) (All-tail IsValid i (listing a ++ mark operation.Else ∷ listing b ++ mark operation.End ∷ []) all)),
-      has_code b role.2 (all_before IsValid (listing b) (mark operation.End ∷ [])
-      (All-tail IsValid (mark operation.Else) (listing b ++ mark operation.End ∷ [])
-      (all_after IsValid (listing a) (mark operation.Else ∷ listing b ++ mark operation.End ∷ [])
-      (All-tail IsValid i (listing a ++ mark operation.Else ∷ listing b ++ mark operation.End ∷ []) all)))),
-    )
-    has_statement (loop i a) role all = (
-      as_loop i role.0 (All-head IsValid i (listing a ++ mark operation.End ∷ []) all),
-      has_code a role.1 (all_before IsValid (listing a) (mark operation.End ∷ []) (All-tail IsValid i (listing a ++ mark operation.End ∷ []) all)),
-    )
+    has_statement (opener i a b) role all =
+        let both = all_before IsValid ((i ∷ listing a) ++ (mark operation.Else ∷ listing b)) (mark operation.End ∷ []) all in
+        let first = all_before IsValid (i ∷ listing a) (mark operation.Else ∷ listing b) both in
+        let second = all_after IsValid (i ∷ listing a) (mark operation.Else ∷ listing b) both in (
+          as_opener i role.0 (All-head IsValid i (listing a) first),
+          has_code a role.1 (All-tail IsValid i (listing a) first),
+          has_code b role.2 (All-tail IsValid (mark operation.Else) (listing b) second),
+        )
+    has_statement (loop i a) role all =
+        let first = all_before IsValid (i ∷ listing a) (mark operation.End ∷ []) all in
+        (as_loop i role.0 (All-head IsValid i (listing a) first), has_code a role.1 (All-tail IsValid i (listing a) first))
 
   -- code whose instructions have the roles of their statements, and the listing of valid code, is this code
   pub same_code : (cs code : Statements) → HasRoles cs → IsCode types constants code → listing cs ≡ listing code → cs ≡ code
