@@ -8,9 +8,78 @@ use Rattle.client_spec.specs.Run.{Ending, finished, stopped, stuck, Machine, Way
 use Rattle.client_spec.specs.Plain.{plain_machine}
 use Rattle.client_spec.specs.declared.table.Role.{Role}
 use Rattle.client_spec.specs.Operations.{row_of}
-use Rattle.client_spec.specs.Grammar.{listing}
-use Rattle.script_meaning.specs.Meaning.{Moment, World, world_of, Meaning, Stays, Then}
-use Rattle.script_meaning.specs.Following.{Tie, Simulates, IsCodeFor}
+use Rattle.client_spec.specs.Grammar.{listing, listing_one}
+use Rattle.client_spec.proofs.Runs.InterpreterStepLaws.{then_assoc, then_nothing}
+use Rattle.script_meaning.specs.Meaning.{Moment, world_of, Meaning, Stays, Then}
+use Rattle.script_meaning.specs.Following.{Tie, Simulates, IsCodeFor, HasRoles}
+
+-- ---- code after code
+
+unfoldable pub joined : Statements → Statements → Statements
+joined no_more b = b
+joined (next c cs) b = next c (joined cs b)
+
+pub listing_joined : (a b : Statements) → listing (joined a b) ≡ listing a ++ listing b
+unfolding joined listing
+listing_joined no_more b = refl
+listing_joined (next c cs) b = ap (λ x. listing_one c ++ x) (listing_joined cs b) ∙ sym (append_assoc (listing_one c) (listing cs) (listing b))
+
+pub run_joined : (S : Type 0) (machine : Machine S) (a b : Statements) (s s' : S) (n : ℕ) (end : Ending) → Run S machine (joined a b) s s' n end
+    → run.Then S (Run S machine a) (Run S machine b) s s' n end
+unfolding joined Run
+run_joined S machine no_more b s s' n end w = then_nothing S (Run S machine b) s s' n end w
+run_joined S machine (next c cs) b s s' n end (inl (mid, k, l, x, y, e)) = then_assoc S (RunOne S machine c) (Run S machine cs) (Run S machine b) s s' n end (inl (mid, k, l, x, run_joined S machine cs b mid s' l end y, e))
+run_joined S machine (next c cs) b s s' n end (inr (x, f)) = inr (inr (x, f), f)
+
+pub roles_joined : (a b : Statements) → HasRoles a → HasRoles b → HasRoles (joined a b)
+unfolding joined
+roles_joined no_more b r q = q
+roles_joined (next c cs) b r q = (r.0, roles_joined cs b r.1 q)
+
+-- ---- one instruction
+
+picked_same : {S : Type 0} (answer : Answer) (way : Way S) → picked answer way way ≡ way
+picked_same success way = refl
+picked_same is_zero way = refl
+picked_same already_exists way = refl
+picked_same bad_alloc way = refl
+picked_same absent way = refl
+picked_same other_type way = refl
+picked_same out_of_range way = refl
+picked_same null_or_none way = refl
+picked_same numbers_used_up way = refl
+
+-- nothing after a way
+pub without_end : (S : Type 0) (way : Way S) (s s' : S) (n : ℕ) (end : Ending) → run.Then S way (Nothing S) s s' n end → (k : ℕ) × way s s' k end
+without_end S way s s' n end (inl (mid, k, l, x, y, e)) = (k, subst (λ t. way s t k end) (sym y.same) (subst (way s mid k) (sym y.ends) x))
+without_end S way s s' n end (inr (x, f)) = (n, x)
+
+-- how an instruction without parts ends
+abbrev pub Ends : (S : Type 0) (machine : Machine S) (i : Instruction) (s s' : S) (end : Ending) → Type 0
+Ends S machine i s s' end = ((answer : Answer) × machine.row i s answer s' × (end ≡ finished)) ⊎ (machine.stop i s s' × (end ≡ stopped)) ⊎ (end ≡ stuck)
+
+pub plain_ends : (S : Type 0) (machine : Machine S) (i : Instruction) (s s' : S) (n : ℕ) (end : Ending) → Performs S machine i (Nothing S) (Nothing S) s s' n end → Ends S machine i s s' end
+plain_ends S machine i s s' n end (inl (answer, mid, k, row, w, e)) =
+    let d : Nothing S mid s' k end = subst (λ (way : Way S). way mid s' k end) (picked_same answer (Nothing S)) w in
+    inl (answer, subst (machine.row i s answer) (sym d.same) row, d.ends)
+plain_ends S machine i s s' n end (inr (inl (stop, e, f))) = inr (inl (stop, f))
+plain_ends S machine i s s' n end (inr (inr (none, e, f, g))) = inr (inr g)
+
+pub drop_at : {A : Type 0} (L : List A) (at : ℕ) (i : A) → slice_get L at ≡ Some i → drop at L ≡ i ∷ drop (suc at) L
+drop_at [] at i e = absurd (let f : None ≡ Some i = e in cc)
+drop_at (x ∷ L) zero i e = let f : x ≡ i = cc in ap (λ y. y ∷ L) f
+drop_at (x ∷ L) (suc at) i e = drop_at L at i e
+
+-- one way after another
+pub simulates_then : (P Q R : Tie) (first second : Meaning) (one two : Way State) → Simulates P first one Q → Simulates Q second two R → Simulates P (Then first second) (run.Then State one two) R
+simulates_then P Q R first second one two f g = record { each = λ m s s' n e p w. by m s s' n e p w }
+  where
+    by : (m : Moment) (s s' : State) (n : ℕ) (e : Ending) → P m s → run.Then State one two s s' n e
+        → (e ≡ stuck) ⊎ ((m' : Moment) × Then first second m m' e × (m'.world ≡ world_of s') × (e ≡ finished → R m' s'))
+    by m s s' n e p (inl (t, k, l, x, y, h)) = elim (f.each m s t k finished p x) [
+        inl b ↦ absurd (let a : finished ≡ stuck = b in cc)
+      | inr b ↦ elim (g.each b.0 t s' l e (b.3 refl) y) [ inl a ↦ inl a | inr a ↦ inr (a.0, inl (b.0, b.1, a.1), a.2, a.3) ] ]
+    by m s s' n e p (inr (x, h)) = elim (f.each m s s' n e p x) [ inl b ↦ inl b | inr b ↦ inr (b.0, inr (b.1, h), b.2, λ a. absurd (h a)) ]
 
 module _ (constants : List Constant) (L : List Instruction) where
   -- another meaning that the first one implies
