@@ -1,16 +1,16 @@
 -- What registers are known to contain, and which numbers they have.
-use Rattle.std.proofs.Common.{◌≡◌, ℕ, suc, ℤ, List, Bool, true, false, Option, Some, None, slice_get, slice_set, ◌⊎◌, inl, inr, refl, sym, ◌∙◌, ap, subst}
+use Rattle.std.proofs.Common.{◌≡◌, ℕ, suc, ℤ, List, Bool, true, false, Option, Some, None, slice_get, ◌⊎◌, inl, inr, refl, sym, ◌∙◌, ap, subst}
 use Rattle.std.specs.Prelude.{IfSome, not}
 use Rattle.std.specs.Option.{option_map_or}
-use Rattle.client_spec.specs.Syntax.{Constant, Instruction}
+use Rattle.client_spec.specs.Syntax.{Instruction}
 use Rattle.client_spec.specs.declared.table.Operation.{Operation}
 use Rattle.client_spec.specs.Run.{Ending, finished, stuck}
-use Rattle.client_spec.specs.Machine.{Register, State, register}
+use Rattle.client_spec.specs.Machine.{Register, State}
 use Rattle.script_meaning.specs.declared.comparison.Comparison.{Comparison}
 use Rattle.script_meaning.specs.declared.knowledge.Knowledge.{Knowledge}
 use Rattle.script_meaning.specs.declared.terms.Term.{Term}
 use Rattle.script_meaning.specs.Meaning.{Moment, Setting, with_variable, world_of, Stays, Sets}
-use Rattle.script_meaning.specs.Following.{Registers, Held, Holds, Knows, HasValue, Extends, Tie, IsCodeFor}
+use Rattle.script_meaning.specs.Following.{Registers, Held, Holds, Knows, HasValue, Extends, Tie}
 use Rattle.script_meaning.specs.Comparing.{setting_of, texts_of, code_of, knowing, holding, Follows, IsAt, HoldsNumber, NumberIsAt, Tests}
 use Rattle.script_meaning.proofs.SequenceLaws.{no_code, then_hidden, weaker}
 use Rattle.script_meaning.proofs.TermLaws.{extends_keeps}

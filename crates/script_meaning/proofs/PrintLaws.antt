@@ -1,11 +1,10 @@
 -- Code that writes output.
-use Rattle.std.proofs.Common.{◌≡◌, ◌≢◌, ℕ, suc, ◌<◌, ℤ, pos, nat_abs, List, [], ◌∷◌, ◌++◌, length, Bool, Some, slice_get, ◌⊎◌, inl, inr, refl, sym, ◌∙◌, ap, subst, arith, append_assoc}
+use Rattle.std.proofs.Common.{◌≡◌, ◌≢◌, ℕ, suc, ℤ, nat_abs, List, [], ◌∷◌, ◌++◌, Bool, Some, slice_get, ◌⊎◌, inl, inr, refl, sym, ◌∙◌, ap, subst, arith, append_assoc}
 use Rattle.std.proofs.lemmas.List.{append_cancel_left, append-nil, length-append}
 use Rattle.std.specs.Fmt.{signed_decimal}
 use Rattle.std.specs.Option.{option_map_or}
 use Rattle.client_spec.specs.Syntax.{Constant, Instruction}
 use Rattle.client_spec.specs.Syntax as syntax
-use Rattle.client_spec.specs.declared.table.Operation.{Operation}
 use Rattle.client_spec.specs.declared.table.Operation.TheVariants as operation
 use Rattle.client_spec.specs.declared.table.Role.{Role}
 use Rattle.client_spec.specs.Operations.{row_of}
@@ -13,10 +12,10 @@ use Rattle.client_spec.specs.Machine.{◌>>=◌, Register, State, register}
 use Rattle.client_spec.specs.Answer.{Answer, success, integer_in, constant_text, write_out}
 use Rattle.client_spec.specs.Effect.{effect, outcome}
 use Rattle.client_spec.specs.Run.{Ending, finished, stopped, stuck}
-use Rattle.client_spec.specs.Plain.{CutShort, UsesUp, plain_machine}
+use Rattle.client_spec.specs.Plain.{plain_machine}
 use Rattle.script_meaning.specs.declared.comparison.Comparison.{Comparison}
 use Rattle.script_meaning.specs.Meaning.{World, world_of, Moment, with_output, Meaning, Stays, Then, Writes}
-use Rattle.script_meaning.specs.Following.{Held, Holds, Tie, Simulates, IsCodeFor}
+use Rattle.script_meaning.specs.Following.{Held, Holds, Tie, IsCodeFor}
 use Rattle.script_meaning.specs.Comparing.{texts_of, code_of, holding, Follows, HoldsNumber, Tests, PrintsText}
 use Rattle.script_meaning.proofs.SequenceLaws.{no_code, then_code, hidden_then, OneDoes, one_code}
 

@@ -1,4 +1,4 @@
-use Rattle.std.proofs.Common.{◌≡◌, ◌+◌, ℕ, suc, Some, refl, arith, ap, ◌∙◌}
+use Rattle.std.proofs.Common.{◌≡◌, ◌+◌, ℕ, suc, Some, arith, ap, ◌∙◌}
 use Rattle.client_spec.specs.declared.table.Operation.TheVariants as operation
 use Rattle.client_spec.specs.Grammar.{mark}
 use Rattle.script_meaning.specs.Meaning.{value}

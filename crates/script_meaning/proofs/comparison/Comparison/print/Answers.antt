@@ -1,6 +1,6 @@
 use Rattle.std.proofs.lemmas.Option.{IfSome_then}
 use Rattle.script_meaning.specs.Meaning.{Writes}
-use Rattle.script_meaning.specs.Comparing.{texts_of, code_of, holding, Follows}
+use Rattle.script_meaning.specs.Comparing.{texts_of, code_of, holding}
 use Rattle.script_meaning.proofs.SequenceLaws.{hidden_then}
 use Rattle.script_meaning.proofs.comparison.Comparison.print.Goals as goal
 

@@ -1,6 +1,5 @@
-use Rattle.std.proofs.Common.{ℕ, ℤ}
-use Rattle.script_meaning.specs.Meaning.{Moment, Setting, value}
-use Rattle.script_meaning.specs.Comparing.{setting_of, holding, knowing, Follows}
+use Rattle.script_meaning.specs.Meaning.{value}
+use Rattle.script_meaning.specs.Comparing.{setting_of, holding, knowing}
 use Rattle.std.proofs.Common.{slice_set, Some}
 use Rattle.script_meaning.proofs.TermLaws.{extends_keeps}
 use Rattle.script_meaning.proofs.KnowingLaws.{knows_more, set_begins, set_goes_on, set_law}

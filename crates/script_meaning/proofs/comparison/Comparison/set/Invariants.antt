@@ -1,6 +1,5 @@
 -- The code so far is hidden, and a term has the variable's new number.
-use Rattle.std.proofs.Common.{ℕ, ℤ}
-use Rattle.script_meaning.specs.Meaning.{Moment, Setting, value, Stays}
+use Rattle.script_meaning.specs.Meaning.{Moment, value, Stays}
 use Rattle.script_meaning.specs.Following.{HasValue}
 use Rattle.script_meaning.specs.Comparing.{setting_of, holding, knowing, Follows}
 use Rattle.script_meaning.proofs.comparison.Comparison.set.Given as goal

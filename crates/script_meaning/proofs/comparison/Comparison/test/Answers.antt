@@ -1,4 +1,4 @@
-use Rattle.std.proofs.Common.{◌≡◌, ◌+◌, ℕ, suc, Some, rules, arith, ap, ◌∙◌, subst}
+use Rattle.std.proofs.Common.{◌≡◌, ℕ, suc, Some, rules, arith, ap, ◌∙◌, subst}
 use denote.Enum.Bare.{same_true}
 use Rattle.client_spec.specs.contracts.table.Operation.{the_type}
 use Rattle.client_code.specs.Views.{instruction_of}

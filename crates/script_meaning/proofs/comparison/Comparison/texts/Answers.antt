@@ -1,10 +1,9 @@
-use Rattle.std.proofs.Common.{rules, arith, ◌≡◌, ◌++◌, ◌∷◌, [], ℤ, IfSome, Some, None, true, slice_get, slice_set, ℕ, ◌+◌, ◌-◌, ◌*◌, ◌<◌, ◌≤◌, length, refl, sym, ap, ◌∙◌, suc, List, append_assoc, subst}
+use Rattle.std.proofs.Common.{rules, arith, ◌≡◌, ◌++◌, ◌∷◌, [], Some, ℕ, length, refl, sym, ap, ◌∙◌, suc, List, append_assoc, subst}
 use Rattle.std.proofs.lemmas.List.{append-nil}
 use Rattle.std.proofs.lemmas.Slice.Eq.{strip_prefix_is}
 use Rattle.std.proofs.lemmas.Bool.Decides.{Decides-eqb}
-use Rattle.script_meaning.specs.Meaning.{Moment, Writes, Stays}
-use Rattle.script_meaning.specs.Following.{Held}
-use Rattle.script_meaning.specs.Comparing.{PrintsText, holding, Follows, IsAt}
+use Rattle.script_meaning.specs.Meaning.{Writes}
+use Rattle.script_meaning.specs.Comparing.{holding, Follows}
 use Rattle.script_meaning.proofs.PrintLaws.{no_text, next_text}
 use Rattle.script_meaning.proofs.comparison.Comparison.texts.Goals as goal
 
