@@ -72,6 +72,9 @@ impl Comparison<'_> {
         let Some(end) = self.code(&mut knowledge, &program.code, 0, held) else {
             return false;
         };
-        self.settled(&mut knowledge, end, &held) == Some(self.instructions.len())
+        match self.settled(&mut knowledge, end, &held) {
+            Some(after) => after == self.instructions.len(),
+            None => false,
+        }
     }
 }
