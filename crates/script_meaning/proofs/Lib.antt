@@ -2,4 +2,5 @@ pub mod SequenceLaws
 pub mod PartLaws
 pub mod QuietRunLaws
 pub mod ObjectRowLaws
+pub mod ComputesLaws
 pub mod ObjectLaws

@@ -1,21 +1,187 @@
 -- Code that finds objects.
-use Rattle.std.proofs.Common.{◌≡◌, ◌≢◌, ℕ, zero, suc, ℤ, pos, List, [], ◌∷◌, ◌++◌, drop, Some, None, slice_get, slice_set, ◌⊎◌, inl, inr, refl, sym, ◌∙◌, ap, subst}
+use Rattle.std.proofs.Common.{◌≡◌, ◌≢◌, ℕ, zero, suc, ◌<◌, ℤ, pos, List, [], ◌∷◌, ◌++◌, length, drop, Bool, Option, Some, None, slice_get, slice_set, ◌⊎◌, inl, inr, refl, sym, ◌∙◌, ap, subst, arith, eq-eqb, ne_eqb, true, false}
+use Rattle.std.specs.Prelude.{◌==◌, if◌then◌else◌, slice_index_or}
+use Rattle.std.proofs.lemmas.Bool.{eqb-true, eqb-false}
 use Rattle.client_spec.specs.Syntax.{Constant, Instruction, Statement, plain, opener, loop, Statements, no_more, next}
 use Rattle.client_spec.specs.declared.table.Operation.{Operation}
 use Rattle.client_spec.specs.declared.table.Operation.TheVariants as operation
+use Rattle.client_spec.specs.declared.table.Role.{Role}
+use Rattle.client_spec.specs.Operations.{row_of}
+use Rattle.client_spec.specs.Machine.{Register, State, register, set_register}
+use Rattle.client_spec.specs.Answer.{Answer, success, give}
+use Rattle.client_spec.specs.Effect.{effect, outcome}
+use Rattle.client_spec.specs.Plain.{CutShort, plain_machine}
 use Rattle.client_spec.specs.Grammar.{mark, listing}
 use Rattle.client_spec.specs.Run.{Ending, finished, stopped, stuck, Run}
+use Rattle.client_spec.proofs.TypedStates.ValueLaws.{Some_inj}
 use Rattle.script_meaning.specs.declared.comparison.Comparison.{Comparison}
 use Rattle.script_meaning.specs.declared.program.Operator.{Operator}
-use Rattle.script_meaning.specs.Meaning.{Moment, Meaning, combined, Stays, Then, Stores, IfObject, Deletes}
-use Rattle.script_meaning.specs.Following.{Held, Holds, Tie, IsCodeFor}
-use Rattle.script_meaning.specs.Comparing.{setting_of, holding, Follows, IsAt, IsAbout, IsFree, HoldsNumber, Marks, OpensStore, OpensChange, OpensObject, Computes}
+use Rattle.script_meaning.specs.Meaning.{World, world_of, Moment, with_variable, with_number, name_of, number_of, Setting, without, Found, Meaning, combined, Stays, Then, Changes, Stores, IfObject, Deletes}
+use Rattle.script_meaning.specs.Following.{Held, Holds, Tie, HasRoles, Simulates, IsCodeFor}
+use Rattle.script_meaning.specs.Comparing.{setting_of, code_of, texts_of, holding, Follows, IsAt, IsAbout, IsFree, HoldsNumber, Marks, ChangesPlace, OpensStore, OpensChange, OpensObject, Computes}
+use Rattle.script_meaning.proofs.SequenceLaws.{hidden_then, then_hidden, weaker, OneDoes, one_code}
+use Rattle.script_meaning.proofs.QuietRunLaws.{Quiet, Went, picked_good, picked_bad, not_cut, WentOn, plain_went, nothing_went, opener_went, OpenerAt, opener_spelled, plain_spelled, nothing_spelled}
+use Rattle.script_meaning.proofs.ObjectRowLaws.{place, Answered, answered, set_same, set_other, set_either, KeepsHeld, keeps_then, keeps_same, keeps_set, free_apart, holds_after, first_number, number_there, Put, Loads, Refers, loads, load_quiet, StoresIn, stores_in, store_quiet}
+use Rattle.script_meaning.proofs.ObjectRowLaws.{Ready, Refused, Names, finds_or, find_quiet, IsFound, IsAbsent, finds, finds_quiet, Destroys, destroys, kill_quiet}
+use Rattle.script_meaning.proofs.ComputesLaws.{computes_plain, computes_no_freeze}
+
+-- ---- deleting
+
+module _ (c : Comparison) (x : ℕ) (held : Held) (kill : Instruction) (kills : kill.operation ≡ operation.Kill) (about : IsAbout c kill x) (free : IsFree held kill.a) where
+  delete_row : (m : Moment) (s s' : State) (answer : Answer) (room : Bool) → Holds held m s → outcome (texts_of c) kill room s ≡ Some (answer, s')
+      → (m' : Moment) × Deletes (setting_of c) x m m' finished × (m'.world ≡ world_of s') × Holds held m' s'
+  delete_row m s s' answer room h e =
+      let d = destroys (setting_of c) x (texts_of c) kill s about.type about.constant kills room answer s' e in
+      let name = name_of (setting_of c) x in
+      let m' : Moment = record m { world = world_of d.base } in
+      let world : world_of d.base ≡ without c.int name (m.world.names name) m.world =
+          d.world ∙ ap (λ (w : World). without c.int name (w.names name) w) h.world in
+      let same : m'.world ≡ world_of s' = sym (ap world_of d.mid_is) in
+      let keeps : KeepsHeld held s s' =
+          subst (λ (t : State). KeepsHeld held s t) (sym d.mid_is)
+          (keeps_then held s d.base (set_register d.base kill.a (Register.Int d.code)) (keeps_same held s d.base d.registers) (keeps_set held d.base kill.a (Register.Int d.code) free)) in
+      (m', (refl, ap (λ (w : World). record m { world = w }) world), same, holds_after held m m' s s' h keeps refl same)
+
+  pub delete_does : OneDoes (texts_of c) (code_of c) kill (holding held) (Deletes (setting_of c) x) (holding held)
+  delete_does = record {
+    role = subst (λ (op : Operation). (row_of op).role ≡ Role.Plain) (sym kills) refl;
+    row = λ m s s' answer h r. (elim r [
+      | inl p ↦ delete_row m s s' answer p.0 h p.1
+      | inr u ↦ absurd ((kill_quiet (setting_of c) x (texts_of c) kill s about.type about.constant kills).no_freeze u.freezes)
+    ]);
+    stop = λ m s s' h cut. absurd (not_cut (texts_of c) kill s s' (kill_quiet (setting_of c) x (texts_of c) kill s about.type about.constant kills) cut);
+  }
+
+-- ---- storing
+
+-- what a run does from a moment to its last state
+abbrev pub Reaches : Meaning → Tie → Moment → State → Ending → Type 0
+Reaches does Q m s' end = (end ≡ stuck) ⊎ ((m' : Moment) × does m m' end × (m'.world ≡ world_of s') × (end ≡ finished → Q m' s'))
+
+-- register b refers to the object that register a was given
+refers_by : (constants : List Constant) (i : Instruction) (base mid : State) (a : ℕ) (name : List ℕ) → mid ≡ set_register base a (Register.Reference (place name)) → i.b ≡ a → Refers constants i mid name
+refers_by constants i base mid a name mid_is b_is =
+    let e : register mid i.b ≡ register (set_register base a (Register.Reference (place name))) a =
+        ap (λ (t : State). register t i.b) mid_is ∙ ap (register (set_register base a (Register.Reference (place name)))) b_is in
+    elim (set_either base.registers a (Register.Reference (place name))) [ inl f ↦ inl (e ∙ f) | inr f ↦ inr (e ∙ f) ]
+
+module _ (constants : List Constant) (setting : Setting) (x : ℕ) (new : Moment → ℤ → ℤ) (otherwise : Meaning) (held : Held) where
+  abbrev stores_it : Meaning
+  stores_it = Stores setting x new otherwise
+
+  -- STORE, the last instruction
+  store_ends : (a : ℕ) (m : Moment) (s mid : State) (r : Ready setting x new otherwise a s mid) → Holds held m s → (store : Instruction) (t : State) (k : ℤ) → store.operation ≡ operation.Store
+      → Refers constants store t (name_of setting x) → register t store.c ≡ Register.Int k → KeepsHeld held s t → world_of t ≡ world_of r.base
+      → ((old : ℤ) → first_number (r.base.names (name_of setting x)) ≡ Some old → k ≡ new m old)
+      → (s' : State) (n : ℕ) (end : Ending) → Run State (plain_machine constants) (next (plain store) no_more) t s' n end → Reaches stores_it (Holds held) m s' end
+  store_ends a m s mid r h store t k stores refers number keeps world right s' n end run =
+      let name = name_of setting x in
+      elim (plain_went constants store no_more t s' n end (store_quiet constants store t name k stores refers number) run) [
+        | inl e ↦ inl e
+        | inr g ↦
+            let last = nothing_went constants g.mid s' g.steps end g.run in
+            let st = stores_in constants store t name k stores refers number g.room g.answer g.mid g.row in
+            let there : first_number (r.base.names name) ≡ Some st.old = ap (λ (w : World). first_number (w.names name)) (sym world) ∙ st.there in
+            let m' : Moment = record m { world = with_number name (new m st.old) (world_of r.base) } in
+            let same : m'.world ≡ world_of s' =
+                sym (ap world_of last.same ∙ st.put.world ∙ ap (λ (w : World). with_number name k w) world ∙ ap (λ (y : ℤ). with_number name y (world_of r.base)) (right st.old there)) in
+            let changes : Changes setting x (new m) (world_of r.base) m m' end = (st.old, number_there setting.int (r.base.names name) st.old r.typed there, last.ends, refl) in
+            let kept : KeepsHeld held s s' = keeps_then held s t s' keeps (keeps_same held t s' (ap (λ (u : State). u.registers) last.same ∙ st.put.registers)) in
+            inr (m', r.means m m' end (sym h.world) changes, same, λ f. holds_after held m m' s s' h kept refl same)
+      ]
+
+  -- the part for a code of FINDOR
+  refused_ends : (a : ℕ) (m : Moment) (s mid : State) → Refused setting x new otherwise a s mid → Holds held m s → IsFree held a → (bad : Statements)
+      → Simulates (Holds held) otherwise (Run State (plain_machine constants) bad) (Holds held)
+      → (s' : State) (n : ℕ) (end : Ending) → Run State (plain_machine constants) bad mid s' n end → Reaches stores_it (Holds held) m s' end
+  refused_ends a m s mid r h free bad simulates s' n end run =
+      let keeps : KeepsHeld held s mid = subst (λ (t : State). KeepsHeld held s t) (sym r.mid_is) (keeps_set held s a (Register.Int r.code) free) in
+      let there : Holds held m mid = holds_after held m m s mid h keeps refl (sym h.world ∙ sym (ap world_of r.mid_is)) in
+      elim (simulates.each m mid s' n end there run) [ inl e ↦ inl e | inr g ↦ inr (g.0, r.means m g.0 end (sym h.world) g.1, g.2, g.3) ]
+
+  -- FINDOR with its parts
+  finds_ends : (find : Instruction) → find.operation ≡ operation.FindOrMake → Names setting x new otherwise constants find → IsFree held find.a → (good bad : Statements) (P : Tie)
+      → ((m : Moment) (s : State) → P m s → Holds held m s)
+      → ((m : Moment) (s mid s' : State) (n : ℕ) (end : Ending) → P m s → Ready setting x new otherwise find.a s mid → Run State (plain_machine constants) good mid s' n end → Reaches stores_it (Holds held) m s' end)
+      → Simulates (Holds held) otherwise (Run State (plain_machine constants) bad) (Holds held)
+      → Simulates P stores_it (Run State (plain_machine constants) (next (opener find good bad) no_more)) (Holds held)
+  finds_ends find is names free good bad P holds goods simulates = record {
+    each = λ m s s' n end p w. (elim (opener_went constants find good bad s s' n end (find_quiet setting x new otherwise constants find s names is) w) [
+      | inl e ↦ inl e
+      | inr g ↦
+          let runs = Run State (plain_machine constants) good in
+          let others = Run State (plain_machine constants) bad in
+          elim (finds_or setting x new otherwise constants find s names is g.room g.answer g.mid g.row) [
+            | inl r ↦ goods m s g.mid s' g.steps end p r.1 (picked_good g.answer runs others g.mid s' g.steps end r.0 g.run)
+            | inr r ↦ refused_ends find.a m s g.mid r.1 (holds m s p) free bad simulates s' g.steps end (picked_bad g.answer runs others g.mid s' g.steps end r.0 g.run)
+          ]
+    ]);
+  }
+
+  ready_keeps : (a : ℕ) (s mid : State) → IsFree held a → Ready setting x new otherwise a s mid → KeepsHeld held s mid
+  ready_keeps a s mid free r =
+      subst (λ (t : State). KeepsHeld held s t) (sym r.mid_is)
+      (keeps_then held s r.base (set_register r.base a (Register.Reference (place (name_of setting x)))) (keeps_same held s r.base r.registers) (keeps_set held r.base a _ free))
+
+  -- another register is as it was before FINDOR
+  ready_other : (a b : ℕ) (s mid : State) → b ≢ a → Ready setting x new otherwise a s mid → register mid b ≡ register s b
+  ready_other a b s mid ne r =
+      ap (λ (t : State). register t b) r.mid_is ∙ set_other r.base a b (Register.Reference (place (name_of setting x))) ne ∙ ap (λ (t : List Register). slice_index_or t b Register.Undefined) r.registers
+
+module _ (c : Comparison) (at other end after x : ℕ) (held : Held) (number : Moment → ℤ) (otherwise : Meaning) (opened : OpensStore c at other held x number)
+    (inside : Follows c other end (holding held) otherwise (holding held)) (ended : Marks c end after operation.End (holding held) (holding held)) where
+  abbrev stored : Moment → ℤ → ℤ
+  stored = λ m old. number m
+
+  inner : Follows c other ended.start (holding held) otherwise (holding held)
+  inner = then_hidden (texts_of c) (code_of c) other end ended.start (holding held) (holding held) (holding held) otherwise inside ended.before
+
+  store_good : (m : Moment) (s mid s' : State) (n : ℕ) (end : Ending) → HoldsNumber held opened.store.c number m s → Ready (setting_of c) x stored otherwise opened.find.a s mid
+      → Run State (plain_machine (texts_of c)) (next (plain opened.store) no_more) mid s' n end → Reaches (Stores (setting_of c) x stored otherwise) (Holds held) m s' end
+  store_good m s mid s' n end p r run =
+      let K = texts_of c in
+      let setting = setting_of c in
+      let name = name_of setting x in
+      let refers : Refers K opened.store mid name = refers_by K opened.store r.base mid opened.find.a name r.mid_is opened.place in
+      let same : register mid opened.store.c ≡ Register.Int (number m) = ready_other K setting x stored otherwise held opened.find.a opened.store.c s mid (λ e. opened.other_register (sym e)) r ∙ p.is in
+      store_ends K setting x stored otherwise held opened.find.a m s mid r p.holds opened.store mid (number m) opened.stores refers same
+      (ready_keeps K setting x stored otherwise held opened.find.a s mid opened.free r) (ap world_of r.mid_is) (λ old e. refl) s' n end run
+
+  store_code : Follows c opened.start after (HoldsNumber held opened.store.c number) (Stores (setting_of c) x stored otherwise) (holding held)
+  store_code =
+      let K = texts_of c in
+      let L = code_of c in
+      let inner' = inner in
+      let good : Statements = next (plain opened.store) no_more in
+      record {
+        code = next (opener opened.find good inner'.code) no_more;
+        roles = (
+          (subst (λ (op : Operation). (row_of op).role ≡ Role.Opener) (sym opened.finds) refl,
+            (subst (λ (op : Operation). (row_of op).role ≡ Role.Plain) (sym opened.stores) refl, tt),
+            inner'.roles),
+          tt,
+        );
+        spelled = opener_spelled L opened.start after opened.find good inner'.code (record {
+          else_at = suc (suc opened.start);
+          end_at = ended.start;
+          there = opened.at_find;
+          good_at = plain_spelled L (suc opened.start) (suc (suc opened.start)) opened.store no_more opened.at_store (nothing_spelled L (suc (suc opened.start)));
+          at_else = opened.at_else;
+          bad_at = subst (λ (n : ℕ). drop n L ≡ listing inner'.code ++ drop ended.start L) opened.after inner'.spelled;
+          at_end = ended.there;
+          after = ended.follows;
+        });
+        simulates = finds_ends K (setting_of c) x stored otherwise held opened.find opened.finds (record { type = opened.about.type; constant = opened.about.constant }) opened.free good inner'.code
+            (HoldsNumber held opened.store.c number) (λ m s p. p.holds) (λ m s mid s' n end p r run. store_good m s mid s' n end p r run) inner'.simulates;
+      }
 
 pub store_law : (c : Comparison) (at other end after x : ℕ) (held : Held) (number : Moment → ℤ) (otherwise : Meaning)
     → OpensStore c at other held x number → Follows c other end (holding held) otherwise (holding held)
     → Marks c end after operation.End (holding held) (holding held)
     → Follows c at after (holding held) (Stores (setting_of c) x (λ m old. number m) otherwise) (holding held)
-store_law c at other end after x held number otherwise opened inside ended = ?
+store_law c at other end after x held number otherwise opened inside ended =
+    hidden_then (texts_of c) (code_of c) at opened.start after (holding held) (HoldsNumber held opened.store.c number) (holding held) (Stores (setting_of c) x (λ m old. number m) otherwise) opened.before
+    (store_code c at other end after x held number otherwise opened inside ended)
 
 pub change_law : (c : Comparison) (at other end after x : ℕ) (held : Held) (o : Operator) (op : Operation) (number : Moment → ℤ) (otherwise : Meaning)
     → Computes o op → OpensChange c at other held x op number → Follows c other end (holding held) otherwise (holding held)
@@ -33,4 +199,5 @@ object_law c at body end other end' after v x r held on_true on_false opened fir
 
 pub delete_law : (c : Comparison) (at x : ℕ) (held : Held) (kill : Instruction) → IsAt c at kill → kill.operation ≡ operation.Kill → IsAbout c kill x
     → IsFree held kill.a → Follows c at (suc at) (holding held) (Deletes (setting_of c) x) (holding held)
-delete_law c at x held kill there kills about free = ?
+delete_law c at x held kill there kills about free =
+    one_code (texts_of c) (code_of c) at kill (holding held) (holding held) (Deletes (setting_of c) x) there (delete_does c x held kill kills about free)
