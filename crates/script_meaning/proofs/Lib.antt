@@ -1,5 +1,6 @@
 pub mod ArmLaws
 pub mod ComputeLaws
+pub mod ComputesLaws
 pub mod HiddenLaws
 pub mod InstructionLaws
 pub mod KnowingLaws

@@ -48,7 +48,7 @@ grows xs ys zs e f =
     omega (arith, q, f)
 
 module _ (constants : List Constant) where
-  not_cut : (i : Instruction) (s s' : State) → Quiet constants i s → CutShort constants i s s' → ⊥
+  pub not_cut : (i : Instruction) (s s' : State) → Quiet constants i s → CutShort constants i s s' → ⊥
   not_cut i s s' quiet cut = grows s.output cut.front cut.lost (sym (quiet.same cut.room success cut.whole cut.written) ∙ cut.bytes) cut.proper
 
   pub went : (i : Instruction) (good bad : Way State) (s s' : State) (n : ℕ) (end : Ending) → Quiet constants i s
