@@ -1,6 +1,7 @@
 -- A client whose whole code does what a program says has its meaning.
 use Rattle.std.proofs.Common.{◌≡◌, ◌≢◌, ℕ, List, [], ◌∷◌, ◌++◌, length, drop, map, None, Some, slice_get, ◌⊎◌, inl, inr, refl, sym, ◌∙◌, ap, subst, arith}
-use Rattle.std.proofs.lemmas.List.{append-nil}
+use Rattle.std.specs.Prelude.{⊤}
+use Rattle.std.proofs.lemmas.List.{append-nil, length-map}
 use Rattle.seg_spec.specs.Types.{Form, form_at}
 use Rattle.client_spec.specs.Syntax.{Client, Statements}
 use Rattle.client_spec.specs.Machine.{State}
@@ -8,10 +9,13 @@ use Rattle.client_spec.specs.Run.{Ending, stuck, Run}
 use Rattle.client_spec.specs.Plain.{plain_machine}
 use Rattle.client_spec.specs.Grammar.{listing, IsClient}
 use Rattle.script_meaning.specs.declared.program.Program.{Program}
+use Rattle.client_code.specs.Views.{instruction_of}
+use Rattle.script_meaning.specs.declared.program.Code.{Code}
 use Rattle.script_meaning.specs.declared.comparison.Comparison.{Comparison}
-use Rattle.script_meaning.specs.Meaning.{Setting, Moment, Does, world_of}
-use Rattle.script_meaning.specs.Following.{Holds, HasMeaning, Means, first_moment}
-use Rattle.script_meaning.specs.Comparing.{setting_of, code_of, texts_of, IsWhole}
+use Rattle.script_meaning.specs.Meaning.{Setting, Moment, Does, Stays, world_of}
+use Rattle.script_meaning.specs.Following.{Held, Holds, HasMeaning, Means, first_moment}
+use Rattle.script_meaning.specs.Comparing.{setting_of, code_of, texts_of, holding, Follows, IsWhole}
+use Rattle.script_meaning.proofs.SequenceLaws.{then_hidden, weaker}
 use Rattle.script_meaning.proofs.TreeLaws.{same_code}
 
 drop_all : {A : Type 0} (xs : List A) → drop (length xs) xs ≡ []
@@ -47,3 +51,13 @@ whole_means c program tree valid code texts objects int whole =
       | inr done ↦ inr (done.0, done.1, done.2)
       ];
     }
+
+-- code from the first instruction, then hidden code up to the last, is the whole code
+pub whole_law : (c : Comparison) (code : Code) (held : Held) (end after : ℕ) → ((r v : ℕ) → slice_get held r ≡ Some (Some v) → ⊥)
+    → Follows c 0 end (holding held) (Does (setting_of c) code) (holding held) → Follows c end after (holding held) Stays (holding held)
+    → after ≡ length c.instructions.now → IsWhole c code
+whole_law c code held end after none first rest last =
+    weaker (texts_of c) (code_of c) 0 (length (code_of c)) (holding held) (holding []) (holding held) (λ m s. ⊤) (Does (setting_of c) code)
+    (λ m s h. record { count = h.count; world = h.world; each = λ r v there. absurd (none r v there) }) (λ m s h. tt)
+    (subst (λ n. Follows c 0 n (holding held) (Does (setting_of c) code) (holding held)) (last ∙ sym (length-map c.instructions.now instruction_of))
+    (then_hidden (texts_of c) (code_of c) 0 end after (holding held) (holding held) (holding held) (Does (setting_of c) code) first rest))
