@@ -31,8 +31,12 @@ pub fn verify_file<'a, F: Files, O: Sink, E: Sink>(
     let bytes = read_file(alloc, files, client)?;
     let image = opened(alloc, image)?;
     let source = bytes.as_slice();
-    let text = if explained && (is_program(client) || is_client_text(client, source)) {
-        Some(source)
+    let is_program = is_program(client);
+    let text = if explained && (is_program || is_client_text(client, source)) {
+        Some(Text {
+            bytes: source,
+            is_program,
+        })
     } else {
         None
     };
@@ -41,12 +45,20 @@ pub fn verify_file<'a, F: Files, O: Sink, E: Sink>(
     verify_client(alloc, &image, &client, text, out)
 }
 
+/// What a client was made of.
+#[derive(Clone, Copy)]
+struct Text<'a> {
+    bytes: &'a [u8],
+    /// Whether it is a program, and not an assembler text.
+    is_program: bool,
+}
+
 /// Prints the most steps of a client, and what each line of its text or program costs if that is given.
 fn verify_client<'a, O: Sink>(
     alloc: Global,
     image: &Image<Global>,
     client: &Client,
-    text: Option<&[u8]>,
+    text: Option<Text<'_>>,
     out: &mut O,
 ) -> Result<(), Failure<'a>>
     requires works { O.has_failed out.old ≡ false }
@@ -56,10 +68,21 @@ fn verify_client<'a, O: Sink>(
     print(out, format!(in alloc; "steps {bound}\n")?.as_bytes())?;
     match text {
         Some(text) if !out.failed() => {
-            let table = steps_of(alloc, text, client.lines.as_slice(), &verified)?;
+            let mut table = steps_of(alloc, text.bytes, client.lines.as_slice(), &verified)?;
+            if text.is_program {
+                table.push_str(meaning_line(client))?;
+            }
             print(out, table.as_bytes())
         }
         _ => Ok(()),
+    }
+}
+
+/// Whether a program's client was shown to do what the program says.
+fn meaning_line(client: &Client) -> &'static str {
+    match client.core {
+        Some(_) => "meaning shown\n",
+        None => "meaning not shown\n",
     }
 }
 

@@ -1,4 +1,6 @@
 //! From a program's text to a client, or to lines that tell what is wrong.
+ghost use Rattle.std.specs.Prelude.{IfOk, IfSome};
+ghost use Rattle.script_meaning.specs.Following.{FileMeans};
 
 use crate::core::core_of;
 use crate::entry::{Translation, translate};
@@ -7,7 +9,7 @@ use crate::report::Report;
 use crate::variables::VariableChange;
 use client_code::TypeTable;
 use script_code::Warning;
-use script_meaning::has_meaning;
+use script_meaning::{Program, has_meaning};
 use script_syntax::{Span, Tree, parse};
 use std::alloc::{AllocError, Global};
 
@@ -22,8 +24,8 @@ pub struct Client {
     pub variables: Vec<VariableChange>,
     /// A line for each warning, with the line of the program and a hint.
     pub warnings: String,
-    /// Whether it is known that the client does what the program says. `None` if the program needs more than the core.
-    pub has_meaning: Option<bool>,
+    /// The program as one of the core, if the client was shown to do what it says.
+    pub core: Option<Program>,
 }
 
 /// Why a program has no client.
@@ -41,13 +43,16 @@ impl From<AllocError> for Refusal {
     }
 }
 
-/// Compiles the program in a file with this name, for the types of an image.
+/// Compiles the program in a file with this name, for the types of an image. If the result has a `core`, the client does what that
+/// program of the core says.
 pub fn client_of(
     alloc: Global,
     file: &str,
     text: &[u8],
     image: &TypeTable,
-) -> Result<Client, Refusal> {
+) -> Result<Client, Refusal>
+    ensures { IfOk result (λ client. IfSome client.core (FileMeans client.bytes.items)) }
+{
     let report = Report::new(alloc, file, text);
     match parse(alloc, text) {
         Ok(tree) => client_of_tree(alloc, &tree, image, report),
@@ -63,7 +68,9 @@ fn client_of_tree(
     tree: &Tree<'_>,
     image: &TypeTable,
     report: Report<'_>,
-) -> Result<Client, Refusal> {
+) -> Result<Client, Refusal>
+    ensures { IfOk result (λ client. IfSome client.core (FileMeans client.bytes.items)) }
+{
     match translate(alloc, tree, image) {
         Ok(translation) => Ok(told_client(alloc, tree, translation, report)?),
         Err(Failure::Errors(wrong)) => Err(refused(error_lines(report, &wrong))),
@@ -77,31 +84,38 @@ fn told_client(
     tree: &Tree<'_>,
     translation: Translation,
     report: Report<'_>,
-) -> Result<Client, AllocError> {
+) -> Result<Client, AllocError>
+    ensures { IfOk result (λ client. IfSome client.core (FileMeans client.bytes.items)) }
+{
     let Translation {
         compiled,
         variables,
     } = translation;
     let bytes = compiled.file(alloc)?;
-    let has_meaning = test_meaning(alloc, tree, bytes.as_slice())?;
+    let core = shown_core(alloc, tree, bytes.as_slice())?;
     Ok(Client {
         bytes,
-        has_meaning,
         lines: lines_of(alloc, compiled.places.as_slice())?,
         variables,
         warnings: warning_lines(report, compiled.warnings.as_slice())?,
+        core,
     })
 }
 
-/// Whether a client does what a program says. `None` if the program needs more than the core.
-fn test_meaning(alloc: Global, tree: &Tree<'_>, bytes: &[u8]) -> Result<Option<bool>, AllocError> {
+/// The program as one of the core, if the client in a file was shown to do what it says.
+fn shown_core(alloc: Global, tree: &Tree<'_>, file: &[u8]) -> Result<Option<Program>, AllocError>
+    ensures { IfOk result (λ core. IfSome core (FileMeans file.now)) }
+{
     let Some(program) = core_of(alloc, tree)? else {
         return Ok(None);
     };
-    match client_code::parse(bytes) {
-        Ok(client) => Ok(Some(has_meaning(alloc, &program, &client)?)),
-        Err(_) => Ok(Some(false)),
+    let Ok(client) = client_code::parse(file) else {
+        return Ok(None);
+    };
+    if has_meaning(alloc, &program, &client)? {
+        return Ok(Some(program));
     }
+    Ok(None)
 }
 
 fn lines_of(alloc: Global, places: &[Span]) -> Result<Vec<usize>, AllocError> {

@@ -11,7 +11,7 @@ use Rattle.client_spec.specs.Operations.{row_of}
 use Rattle.client_spec.specs.Machine.{Register, State, register}
 use Rattle.client_spec.specs.Run.{Ending, finished, stuck, Way, Run}
 use Rattle.client_spec.specs.Plain.{plain_machine}
-use Rattle.client_spec.specs.Grammar.{listing}
+use Rattle.client_spec.specs.Grammar.{listing, SpellsClient}
 use Rattle.script_meaning.specs.declared.terms.Computation.{Computation}
 use Rattle.script_meaning.specs.declared.terms.Computation.TheVariants as computation
 use Rattle.script_meaning.specs.declared.terms.Term.{Term}
@@ -131,3 +131,7 @@ pub record HasMeaning (setting : Setting) (program : Program) (client : Client) 
 abbrev pub Means : Program → Client → Type 0
 Means program client = (int : ℕ) × HasMeaning
     (record { int = int; objects = map (λ name. name.items) program.objects.items }) program client
+
+-- the client in a file does what the program does
+abbrev pub FileMeans : List ℕ → Program → Type 0
+FileMeans file program = (client : Client) → SpellsClient file client → Means program client

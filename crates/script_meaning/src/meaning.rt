@@ -3,8 +3,8 @@ ghost use Rattle.std.specs.Prelude.{◌≡◌, ◌≢◌, [], Ok, Some, true, ma
 ghost use Rattle.seg_spec.specs.Types.{Form, form_at};
 ghost use Rattle.client_spec.specs.Grammar.{listing};
 ghost use Rattle.client_code.specs.Views.{instruction_of};
-ghost use Rattle.client_code.specs.Clients.{OfTree};
-ghost use Rattle.script_meaning.specs.Following.{Means};
+ghost use Rattle.client_code.specs.Clients.{OfTree, bytes_of};
+ghost use Rattle.script_meaning.specs.Following.{FileMeans};
 ghost use Rattle.script_meaning.specs.Comparing.{IsWhole};
 
 use crate::comparison::Comparison;
@@ -20,7 +20,7 @@ pub fn has_meaning(
     program: &Program,
     client: &Client<'_>,
 ) -> Result<bool, AllocError>
-    ensures { result ≡ Ok true → OfTree client.now (Means program.now) }
+    ensures { result ≡ Ok true → FileMeans (bytes_of client.now) program.now }
 {
     let Some(int) = int_type(&client.types(), program) else {
         return Ok(false);
