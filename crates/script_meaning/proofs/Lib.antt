@@ -1,3 +1,4 @@
+pub mod AnswerLaws
 pub mod ArmLaws
 pub mod ComputeLaws
 pub mod ComputesLaws

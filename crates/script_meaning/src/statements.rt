@@ -257,14 +257,14 @@ impl Comparison<'_> {
         let find = self.instruction(after)?;
         let store_at = after.checked_add(1)?;
         let store = self.instruction(store_at)?;
-        let is_right = find.operation == Operation::FindOrMake
-            && self.is_about(find, object)
-            && store.operation == Operation::Store
-            && store.b == find.a
-            && find.a != store.c
-            && held.is_free(find.a)
-            && knowledge.term(store.c)? == term;
-        if !is_right {
+        if find.operation != Operation::FindOrMake
+            || !self.is_about(find, object)
+            || store.operation != Operation::Store
+            || store.b != find.a
+            || find.a == store.c
+            || !held.is_free(find.a)
+            || knowledge.term(store.c)? != term
+        {
             return None;
         }
         self.mark(Operation::Else, store_at.checked_add(1)?)
@@ -292,16 +292,16 @@ impl Comparison<'_> {
         let compute = self.instruction(compute_at)?;
         let store_at = compute_at.checked_add(1)?;
         let store = self.instruction(store_at)?;
-        let is_right = find.operation == Operation::FindOrMake
-            && self.is_about(find, object)
-            && held.is_free(find.a)
-            && is_change(find.a, load, compute, store, operation)
-            && held.is_free(load.a)
-            && find.a != load.a
-            && find.a != compute.c
-            && load.a != compute.c
-            && knowledge.term(compute.c)? == term;
-        if !is_right {
+        if find.operation != Operation::FindOrMake
+            || !self.is_about(find, object)
+            || !held.is_free(find.a)
+            || !is_change(find.a, load, compute, store, operation)
+            || !held.is_free(load.a)
+            || find.a == load.a
+            || find.a == compute.c
+            || load.a == compute.c
+            || knowledge.term(compute.c)? != term
+        {
             return None;
         }
         self.mark(Operation::Else, store_at.checked_add(1)?)
@@ -323,15 +323,15 @@ impl Comparison<'_> {
         let find = self.instruction(start)?;
         let load_at = start.checked_add(1)?;
         let load = self.instruction(load_at)?;
-        let is_right = find.operation == Operation::Find
-            && self.is_about(find, object)
-            && find.c == Instruction::NONE
-            && load.operation == Operation::Load
-            && load.b == find.a
-            && held.is_free(find.a)
-            && held.is_free(load.a)
-            && held.lacks(variable);
-        if !is_right {
+        if find.operation != Operation::Find
+            || !self.is_about(find, object)
+            || find.c != Instruction::NONE
+            || load.operation != Operation::Load
+            || load.b != find.a
+            || !held.is_free(find.a)
+            || !held.is_free(load.a)
+            || !held.lacks(variable)
+        {
             return None;
         }
         Some(Opened {
