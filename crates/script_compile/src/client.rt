@@ -2,7 +2,7 @@
 ghost use Rattle.std.specs.Prelude.{IfOk, IfSome};
 ghost use Rattle.script_meaning.specs.Following.{FileMeans};
 
-use crate::core::core_of;
+use crate::core_program::core_of;
 use crate::entry::{Translation, translate};
 use crate::failure::{Failure, Wrong};
 use crate::report::Report;

@@ -6,7 +6,7 @@ mod calls;
 mod client;
 mod compiler;
 mod constructs;
-mod core;
+mod core_program;
 mod entry;
 mod failure;
 mod loops;

@@ -31,10 +31,10 @@ pub number_held : (c : Comparison) (at after : ℕ) (held : Held) (knowledge : K
 number_held c at after held knowledge term number n r found there same =
     weaker (texts_of c) (code_of c) at after (holding held) (holding held) (λ m s. Holds held m s × knowing c knowledge m s) (HoldsNumber held r number) Stays (λ m s h. h)
     (λ m s p. (
-      let e = p.1.each r found there in
-      let value : HasValue (setting_of c) m knowledge.terms.list.items found (number m) = subst (λ (t : ℕ). HasValue (setting_of c) m knowledge.terms.list.items t (number m)) (sym same) (n.value m) in
-      let number_is : e.0 ≡ number m = Some_inj (sym e.1 ∙ value) in
-      record { holds = p.0; is = e.2 ∙ ap Register.Int number_is }
+    let e = p.1.each r found there in
+    let value : HasValue (setting_of c) m knowledge.terms.list.items found (number m) = subst (λ (t : ℕ). HasValue (setting_of c) m knowledge.terms.list.items t (number m)) (sym same) (n.value m) in
+    let number_is : e.0 ≡ number m = Some_inj (sym e.1 ∙ value) in
+    record { holds = p.0; is = e.2 ∙ ap Register.Int number_is }
     ))
     n.before
 

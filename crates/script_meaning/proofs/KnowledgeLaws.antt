@@ -29,15 +29,17 @@ knows_set setting old new registers r term m s extends gets knows = record { cou
   where
     each : (q at : ℕ) → slice_get (slice_set registers r term) q ≡ Some (Some at) → (k : ℤ) × HasValue setting m new at k × (register s q ≡ Register.Int k)
     each q at is = elim (set_cases (Option ℕ) registers r q term (Some at) is) [
-          inl (e, f) ↦ let P : ℕ → Type 0 = λ i. (k : ℤ) × HasValue setting m new at k × (register s i ≡ Register.Int k) in subst P (sym e) (gets.each at (sym f))
-        | inr e ↦ let (k, has, there) = knows.each q at e in (k, extends_keeps setting m old new at k extends has, there) ]
+      | inl (e, f) ↦ let P : ℕ → Type 0 = λ i. (k : ℤ) × HasValue setting m new at k × (register s i ≡ Register.Int k) in subst P (sym e) (gets.each at (sym f))
+      | inr e ↦ let (k, has, there) = knows.each q at e in (k, extends_keeps setting m old new at k extends has, there)
+    ]
 
 -- the term of a variable, in the variable's register
 pub gets_variable : (setting : Setting) (terms : List Term) (r v : ℕ) (m : Moment) (s : State) (term : Option ℕ)
     → IfSome term (λ at. (setting' : Setting) (m' : Moment) → HasValue setting' m' terms at (m'.variables v))
     → register s r ≡ Register.Int (m.variables v) → Gets setting terms r m s term
-gets_variable setting terms r v m s term value there = record { each = λ at is.
-  (m.variables v, (subst (λ (t : Option ℕ). IfSome t (λ at. (setting' : Setting) (m' : Moment) → HasValue setting' m' terms at (m'.variables v))) is value) setting m, there);
+gets_variable setting terms r v m s term value there = record {
+  each = λ at is.
+      (m.variables v, (subst (λ (t : Option ℕ). IfSome t (λ at. (setting' : Setting) (m' : Moment) → HasValue setting' m' terms at (m'.variables v))) is value) setting m, there);
 }
 
 -- the variable that a register holds

@@ -35,11 +35,11 @@ module _ (c : Comparison) (x : ℕ) (held : Held) (kill : Instruction) (kills : 
       let name = name_of (setting_of c) x in
       let m' : Moment = record m { world = world_of d.base } in
       let world : world_of d.base ≡ without c.int name (m.world.names name) m.world =
-          d.world ∙ ap (λ (w : World). without c.int name (w.names name) w) h.world in
+      d.world ∙ ap (λ (w : World). without c.int name (w.names name) w) h.world in
       let same : m'.world ≡ world_of s' = sym (ap world_of d.mid_is) in
       let keeps : KeepsHeld held s s' =
-          subst (λ (t : State). KeepsHeld held s t) (sym d.mid_is)
-          (keeps_then held s d.base (set_register d.base kill.a (Register.Int d.code)) (keeps_same held s d.base d.registers) (keeps_set held d.base kill.a (Register.Int d.code) free)) in
+      subst (λ (t : State). KeepsHeld held s t) (sym d.mid_is)
+      (keeps_then held s d.base (set_register d.base kill.a (Register.Int d.code)) (keeps_same held s d.base d.registers) (keeps_set held d.base kill.a (Register.Int d.code) free)) in
       (m', (refl, ap (λ (w : World). record m { world = w }) world), same, holds_after held m m' s s' h keeps refl same)
 
   pub delete_does : OneDoes (texts_of c) (code_of c) kill (holding held) (Deletes (setting_of c) x) (holding held)
@@ -62,7 +62,7 @@ Reaches does Q m s' end = (end ≡ stuck) ⊎ ((m' : Moment) × does m m' end ×
 refers_by : (constants : List Constant) (i : Instruction) (base mid : State) (a : ℕ) (name : List ℕ) → mid ≡ set_register base a (Register.Reference (place name)) → i.b ≡ a → Refers constants i mid name
 refers_by constants i base mid a name mid_is b_is =
     let e : register mid i.b ≡ register (set_register base a (Register.Reference (place name))) a =
-        ap (λ (t : State). register t i.b) mid_is ∙ ap (register (set_register base a (Register.Reference (place name)))) b_is in
+    ap (λ (t : State). register t i.b) mid_is ∙ ap (register (set_register base a (Register.Reference (place name)))) b_is in
     elim (set_either base.registers a (Register.Reference (place name))) [ inl f ↦ inl (e ∙ f) | inr f ↦ inr (e ∙ f) ]
 
 module _ (constants : List Constant) (setting : Setting) (x : ℕ) (new : Moment → ℤ → ℤ) (otherwise : Meaning) (held : Held) where
@@ -84,7 +84,7 @@ module _ (constants : List Constant) (setting : Setting) (x : ℕ) (new : Moment
             let there : first_number (r.base.names name) ≡ Some st.old = ap (λ (w : World). first_number (w.names name)) (sym world) ∙ st.there in
             let m' : Moment = record m { world = with_number name (new m st.old) (world_of r.base) } in
             let same : m'.world ≡ world_of s' =
-                sym (ap world_of last.same ∙ st.put.world ∙ ap (λ (w : World). with_number name k w) world ∙ ap (λ (y : ℤ). with_number name y (world_of r.base)) (right st.old there)) in
+            sym (ap world_of last.same ∙ st.put.world ∙ ap (λ (w : World). with_number name k w) world ∙ ap (λ (y : ℤ). with_number name y (world_of r.base)) (right st.old there)) in
             let changes : Changes setting x (new m) (world_of r.base) m m' end = (st.old, number_there setting.int (r.base.names name) st.old r.typed there, last.ends, refl) in
             let kept : KeepsHeld held s s' = keeps_then held s t s' keeps (keeps_same held t s' (ap (λ (u : State). u.registers) last.same ∙ st.put.registers)) in
             inr (m', r.means m m' end (sym h.world) changes, same, λ f. holds_after held m m' s s' h kept refl same)
@@ -156,9 +156,11 @@ module _ (c : Comparison) (at other end after x : ℕ) (held : Held) (number : M
       record {
         code = next (opener opened.find good inner'.code) no_more;
         roles = (
-          (subst (λ (op : Operation). (row_of op).role ≡ Role.Opener) (sym opened.finds) refl,
+          (
+            subst (λ (op : Operation). (row_of op).role ≡ Role.Opener) (sym opened.finds) refl,
             (subst (λ (op : Operation). (row_of op).role ≡ Role.Plain) (sym opened.stores) refl, tt),
-            inner'.roles),
+            inner'.roles,
+          ),
           tt,
         );
         spelled = opener_spelled L opened.start after opened.find good inner'.code (record {
@@ -193,9 +195,9 @@ module _ (c : Comparison) (at other end after x : ℕ) (held : Held) (o : Operat
       let i = opened.compute in
       let l = opened.load.a in
       let f : effect K op l l i.c i.number room t ≡ Some (answer, u) =
-          ap (λ (b : ℕ). effect K op l b i.c i.number room t) (sym opened.changes.left)
-          ∙ ap (λ (a : ℕ). effect K op a i.b i.c i.number room t) (sym opened.changes.result)
-          ∙ ap (λ (q : Operation). effect K q i.a i.b i.c i.number room t) (sym opened.changes.computes) ∙ e in
+      ap (λ (b : ℕ). effect K op l b i.c i.number room t) (sym opened.changes.left)
+      ∙ ap (λ (a : ℕ). effect K op a i.b i.c i.number room t) (sym opened.changes.result)
+      ∙ ap (λ (q : Operation). effect K q i.a i.b i.c i.number room t) (sym opened.changes.computes) ∙ e in
       (answered success l (Register.Int (combined o old y)) t answer u (sym (computes K l l i.c i.number room t old y left right) ∙ f)).state_is
 
   compute_quiet : (t : State) (old y : ℤ) → register t opened.load.a ≡ Register.Int old → register t opened.compute.c ≡ Register.Int y → Quiet (texts_of c) opened.compute t
@@ -223,20 +225,20 @@ module _ (c : Comparison) (at other end after x : ℕ) (held : Held) (o : Operat
       let t_has : l < length t.registers = subst (λ (n : ℕ). l < n) (sym (to_t.count ∙ p.holds.count)) opened.load_exists in
       let left : register t l ≡ Register.Int old = ap (λ (u : State). register u l) t_is ∙ set_same mid l (Register.Int old) mid_has in
       let right : register t opened.compute.c ≡ Register.Int (number m) =
-          ap (λ (u : State). register u opened.compute.c) t_is ∙ set_other mid l opened.compute.c (Register.Int old) (λ e. opened.load_apart (sym e))
-          ∙ ready_other K setting x changed otherwise held a opened.compute.c s mid (λ e. opened.find_apart (sym e)) r ∙ p.is in
+      ap (λ (u : State). register u opened.compute.c) t_is ∙ set_other mid l opened.compute.c (Register.Int old) (λ e. opened.load_apart (sym e))
+      ∙ ready_other K setting x changed otherwise held a opened.compute.c s mid (λ e. opened.find_apart (sym e)) r ∙ p.is in
       elim (plain_went K opened.compute (next (plain opened.store) no_more) t s' n end (compute_quiet t old (number m) left right) run) [
         | inl e ↦ inl e
         | inr g ↦
             let u_is : g.mid ≡ set_register t l (Register.Int k) = computed t old (number m) left right g.room g.answer g.mid g.row in
             let t_u : KeepsHeld held t g.mid = subst (λ (u : State). KeepsHeld held t u) (sym u_is) (keeps_set held t l (Register.Int k) opened.load_free) in
             let place_same : register g.mid opened.store.b ≡ register mid opened.store.b =
-                ap (λ (u : State). register u opened.store.b) u_is ∙ set_other t l opened.store.b (Register.Int k) (λ e. opened.apart (sym opened.changes.store_place ∙ e))
-                ∙ ap (λ (u : State). register u opened.store.b) t_is ∙ set_other mid l opened.store.b (Register.Int old) (λ e. opened.apart (sym opened.changes.store_place ∙ e)) in
+            ap (λ (u : State). register u opened.store.b) u_is ∙ set_other t l opened.store.b (Register.Int k) (λ e. opened.apart (sym opened.changes.store_place ∙ e))
+            ∙ ap (λ (u : State). register u opened.store.b) t_is ∙ set_other mid l opened.store.b (Register.Int old) (λ e. opened.apart (sym opened.changes.store_place ∙ e)) in
             let refers : Refers K opened.store g.mid name =
-                elim (refers_by K opened.store r.base mid a name r.mid_is opened.changes.store_place) [ inl e ↦ inl (place_same ∙ e) | inr e ↦ inr (place_same ∙ e) ] in
+            elim (refers_by K opened.store r.base mid a name r.mid_is opened.changes.store_place) [ inl e ↦ inl (place_same ∙ e) | inr e ↦ inr (place_same ∙ e) ] in
             let stored_number : register g.mid opened.store.c ≡ Register.Int k =
-                ap (λ (q : ℕ). register g.mid q) opened.changes.store_number ∙ ap (λ (u : State). register u l) u_is ∙ set_same t l (Register.Int k) t_has in
+            ap (λ (q : ℕ). register g.mid q) opened.changes.store_number ∙ ap (λ (u : State). register u l) u_is ∙ set_same t l (Register.Int k) t_has in
             let world : world_of g.mid ≡ world_of r.base = ap world_of u_is ∙ ap world_of t_is ∙ ap world_of r.mid_is in
             let first : first_number (r.base.names name) ≡ Some old = ap (λ (u : State). first_number (u.names name)) (sym r.mid_is) ∙ there in
             store_ends K setting x changed otherwise held a m s mid r p.holds opened.store g.mid k opened.changes.stores refers stored_number
@@ -268,9 +270,11 @@ module _ (c : Comparison) (at other end after x : ℕ) (held : Held) (o : Operat
       record {
         code = next (opener opened.find good inner'.code) no_more;
         roles = (
-          (subst (λ (q : Operation). (row_of q).role ≡ Role.Opener) (sym opened.finds) refl,
+          (
+            subst (λ (q : Operation). (row_of q).role ≡ Role.Opener) (sym opened.finds) refl,
             (subst (λ (q : Operation). (row_of q).role ≡ Role.Plain) (sym opened.changes.loads) refl, (compute_role, (subst (λ (q : Operation). (row_of q).role ≡ Role.Plain) (sym opened.changes.stores) refl, tt))),
-            inner'.roles),
+            inner'.roles,
+          ),
           tt,
         );
         spelled = opener_spelled L start after opened.find good inner'.code (record {
@@ -364,13 +368,13 @@ module _ (c : Comparison) (at body end other end' after v x r : ℕ) (held : Hel
             let k : ℤ = l.number in
             let t_is : g.mid ≡ set_register mid r (Register.Int k) = l.gave.state_is ∙ ap (λ (q : ℕ). set_register mid q (Register.Int k)) opened.gives in
             let keeps : KeepsHeld held s g.mid =
-                keeps_then held s mid g.mid to_mid (subst (λ (u : State). KeepsHeld held mid u) (sym t_is) (keeps_set held mid r (Register.Int k) opened.load_free)) in
+            keeps_then held s mid g.mid to_mid (subst (λ (u : State). KeepsHeld held mid u) (sym t_is) (keeps_set held mid r (Register.Int k) opened.load_free)) in
             let exists : r < length mid.registers = subst (λ (n : ℕ). r < n) (sym (to_mid.count ∙ h.count)) opened.load_exists in
             let has : register g.mid r ≡ Register.Int k = ap (λ (u : State). register u r) t_is ∙ set_same mid r (Register.Int k) exists in
             let world : world_of g.mid ≡ world_of s = ap world_of t_is ∙ ap world_of f.mid_is in
             let number : number_of setting m.world x ≡ Some k =
-                ap (λ (w : World). number_of setting w x) (sym h.world)
-                ∙ number_there setting.int (s.names name) k f.typed (ap (λ (u : State). first_number (u.names name)) (sym f.mid_is) ∙ l.there) in
+            ap (λ (w : World). number_of setting w x) (sym h.world)
+            ∙ number_there setting.int (s.names name) k f.typed (ap (λ (u : State). first_number (u.names name)) (sym f.mid_is) ∙ l.there) in
             elim (found_inner.simulates.each (with_variable m v k) g.mid s' g.steps end (holds_more held r v opened.load_free opened.load_exists opened.new m s g.mid k h keeps world has) g.run) [
               | inl e ↦ inl e
               | inr y ↦ inr (y.0, subst (λ (found : Option ℤ). Found (λ (j : ℤ). on_true (with_variable m v j) y.0 end) (on_false m y.0 end) found) (sym number) y.1, y.2, y.3)
@@ -414,9 +418,11 @@ module _ (c : Comparison) (at body end other end' after v x r : ℕ) (held : Hel
       record {
         code = next (opener opened.find good absent_inner.code) no_more;
         roles = (
-          (subst (λ (q : Operation). (row_of q).role ≡ Role.Opener) (sym opened.finds) refl,
+          (
+            subst (λ (q : Operation). (row_of q).role ≡ Role.Opener) (sym opened.finds) refl,
             (subst (λ (q : Operation). (row_of q).role ≡ Role.Plain) (sym opened.loads) refl, found_inner.roles),
-            absent_inner.roles),
+            absent_inner.roles,
+          ),
           tt,
         );
         spelled = opener_spelled L start after opened.find good absent_inner.code (record {

@@ -107,11 +107,11 @@ put_place s name k old e =
     let a = bind_some (s.names name) (λ (o : Object). nth o.values 0 >>= int_in) old e in
     let b = bind_some (nth a.0.values 0) int_in old a.2 in
     let at : at_origin s (Origin.Name name 0) ≡ Some (b.0, a.0.type) =
-        ap (λ (o : Option Object). o >>= λ (o : Object). nth o.values 0 >>= λ (v : Value). Some (v, o.type)) a.1 ∙ ap (λ (v : Option Value). v >>= λ (v : Value). Some (v, a.0.type)) b.1 in
+    ap (λ (o : Option Object). o >>= λ (o : Object). nth o.values 0 >>= λ (v : Value). Some (v, o.type)) a.1 ∙ ap (λ (v : Option Value). v >>= λ (v : Value). Some (v, a.0.type)) b.1 in
     let origin : put_at s (place name) (Int k) ≡ put_origin s (Origin.Name name 0) (Int k) =
-        ap (λ (p : Option (Value × ℕ)). option_map_or (λ (found : Value × ℕ). put_origin s (Origin.Name name 0) (with_value_at [] (Int k) found.0)) p s) at in
+    ap (λ (p : Option (Value × ℕ)). option_map_or (λ (found : Value × ℕ). put_origin s (Origin.Name name 0) (with_value_at [] (Int k) found.0)) p s) at in
     let named : put_origin s (Origin.Name name 0) (Int k) ≡ record s { names = with_name s.names name (Some (replace_item 0 (Int k) a.0)) } =
-        ap (λ (o : Option Object). option_map_or (λ (o : Object). record s { names = with_name s.names name (Some (replace_item 0 (Int k) o)) }) o s) a.1 in
+    ap (λ (o : Option Object). option_map_or (λ (o : Object). record s { names = with_name s.names name (Some (replace_item 0 (Int k) o)) }) o s) a.1 in
     let whole = origin ∙ named in
     record {
       world = ap world_of whole ∙ sym (ap (λ (o : Option Object). option_map_or (λ (o : Object). record (world_of s) { names = with_name (world_of s).names name (Some (replace_item 0 (Int k) o)) }) o (world_of s)) a.1);
@@ -139,7 +139,7 @@ module _ (constants : List Constant) (i : Instruction) (s : State) (name : List 
   unfolding effect
   loads is refers room answer s' e =
       let f : (path_of s i.b >>= λ (p : Path). (path_value s p >>= int_in) >>= λ (k : ℤ). give i.a (Register.Int k) s) ≡ Some (answer, s') =
-          ap (λ (op : Operation). effect constants op i.a i.b i.c i.number room s) (sym is) ∙ e in
+      ap (λ (op : Operation). effect constants op i.a i.b i.c i.number room s) (sym is) ∙ e in
       let p = bind_some (path_of s i.b) (λ (p : Path). (path_value s p >>= int_in) >>= λ (k : ℤ). give i.a (Register.Int k) s) (answer, s') f in
       let k = bind_some (path_value s p.0 >>= int_in) (λ (k : ℤ). give i.a (Register.Int k) s) (answer, s') p.2 in
       record {
@@ -164,7 +164,7 @@ module _ (constants : List Constant) (i : Instruction) (s : State) (name : List 
   unfolding effect
   stores_in k is refers number room answer s' e =
       let f : (path_of s i.b >>= λ (p : Path). (path_value s p >>= int_in) >>= λ (old : ℤ). integer_at s i.c >>= λ (x : ℤ). Some (success, put_at s p (Int x))) ≡ Some (answer, s') =
-          ap (λ (op : Operation). effect constants op i.a i.b i.c i.number room s) (sym is) ∙ e in
+      ap (λ (op : Operation). effect constants op i.a i.b i.c i.number room s) (sym is) ∙ e in
       let p = bind_some (path_of s i.b) (λ (p : Path). (path_value s p >>= int_in) >>= λ (old : ℤ). integer_at s i.c >>= λ (x : ℤ). Some (success, put_at s p (Int x))) (answer, s') f in
       let old = bind_some (path_value s p.0 >>= int_in) (λ (old : ℤ). integer_at s i.c >>= λ (x : ℤ). Some (success, put_at s p.0 (Int x))) (answer, s') p.2 in
       let x = bind_some (integer_at s i.c) (λ (x : ℤ). Some (success, put_at s p.0 (Int x))) (answer, s') old.2 in
@@ -221,18 +221,21 @@ module _ (setting : Setting) (x : ℕ) (new : Moment → ℤ → ℤ) (otherwise
       let made : Option Object = Some (record { type = setting.int; values = copies 1 (default_of s.types setting.int) }) in
       let base : State = record s { names = with_name s.names the_name made } in
       let h = answered success a (Register.Reference (place the_name)) base c mid e in
-      inl (h.code_is, record {
-        base = base;
-        registers = refl;
-        output = refl;
-        typed = λ o f. (
-          let g : made ≡ Some o = sym (name_there s.names the_name made) ∙ f in
-          ap (λ (y : Object). y.type == setting.int) (sym (Some_inj g)) ∙ eq-eqb setting.int setting.int refl
-        );
-        mid_is = h.state_is;
-        means = λ m m' end w changes. by_object m m' end None (ap (λ (w : World). w.names the_name) w ∙ none)
-            (inl (subst (λ (w : World). Changes setting x (new m) (with_object setting.int the_name w) m m' end) (sym w) changes));
-      })
+      inl (
+        h.code_is,
+        record {
+          base = base;
+          registers = refl;
+          output = refl;
+          typed = λ o f. (
+              let g : made ≡ Some o = sym (name_there s.names the_name made) ∙ f in
+              ap (λ (y : Object). y.type == setting.int) (sym (Some_inj g)) ∙ eq-eqb setting.int setting.int refl
+              );
+          mid_is = h.state_is;
+          means = λ m m' end w changes. by_object m m' end None (ap (λ (w : World). w.names the_name) w ∙ none)
+              (inl (subst (λ (w : World). Changes setting x (new m) (with_object setting.int the_name w) m m' end) (sym w) changes));
+        },
+      )
   finds_none a s false c mid none e =
       refused a s bad_alloc c mid (λ q. cc) (answered bad_alloc a (Register.Int (pos (answer_number bad_alloc))) s c mid e)
       (λ m m' end w other. by_object m m' end None (ap (λ (w : World). w.names the_name) w ∙ none) (inr other))
@@ -241,18 +244,21 @@ module _ (setting : Setting) (x : ℕ) (new : Moment → ℤ → ℤ) (otherwise
       → (if b then refer a (place the_name) s else fail a other_type s) ≡ Some (c, mid) → FindsOr a s c mid
   finds_some a s c mid o there true is e =
       let h = answered success a (Register.Reference (place the_name)) s c mid e in
-      inl (h.code_is, record {
-        base = s;
-        registers = refl;
-        output = refl;
-        typed = λ o' f. (
-          let g : Some o ≡ Some o' = sym there ∙ f in
-          ap (λ (y : Object). y.type == setting.int) (sym (Some_inj g)) ∙ is
-        );
-        mid_is = h.state_is;
-        means = λ m m' end w changes. by_object m m' end (Some o) (ap (λ (w : World). w.names the_name) w ∙ there)
-            (subst (λ (b : Bool). Chosen b (Changes setting x (new m) m.world m m' end) (otherwise m m' end)) (sym is) (subst (λ (w : World). Changes setting x (new m) w m m' end) (sym w) changes));
-      })
+      inl (
+        h.code_is,
+        record {
+          base = s;
+          registers = refl;
+          output = refl;
+          typed = λ o' f. (
+              let g : Some o ≡ Some o' = sym there ∙ f in
+              ap (λ (y : Object). y.type == setting.int) (sym (Some_inj g)) ∙ is
+              );
+          mid_is = h.state_is;
+          means = λ m m' end w changes. by_object m m' end (Some o) (ap (λ (w : World). w.names the_name) w ∙ there)
+              (subst (λ (b : Bool). Chosen b (Changes setting x (new m) m.world m m' end) (otherwise m m' end)) (sym is) (subst (λ (w : World). Changes setting x (new m) w m m' end) (sym w) changes));
+        },
+      )
   finds_some a s c mid o there false is e =
       refused a s other_type c mid (λ q. cc) (answered other_type a (Register.Int (pos (answer_number other_type))) s c mid e)
       (λ m m' end w other. by_object m m' end (Some o) (ap (λ (w : World). w.names the_name) w ∙ there)
@@ -275,7 +281,7 @@ module _ (setting : Setting) (x : ℕ) (new : Moment → ℤ → ℤ) (otherwise
     unfolding effect
     finds_or is room c mid e =
         let f : ((slice_get constants (constant_operand i.number) >>= λ (k : Constant). constant_name k (register s i.b)) >>= λ (n : List ℕ). find_or_add i.a n (type_operand i.number) (s.names n) room s) ≡ Some (c, mid) =
-            ap (λ (op : Operation). effect constants op i.a i.b i.c i.number room s) (sym is) ∙ e in
+        ap (λ (op : Operation). effect constants op i.a i.b i.c i.number room s) (sym is) ∙ e in
         finds_by i.a s room c mid (s.names the_name) refl
         (ap (λ (t : ℕ). find_or_add i.a the_name t (s.names the_name) room s) (sym names.type)
         ∙ ap (λ (o : Option (List ℕ)). o >>= λ (n : List ℕ). find_or_add i.a n (type_operand i.number) (s.names n) room s) (sym name_is) ∙ f)
@@ -322,15 +328,18 @@ module _ (setting : Setting) (x : ℕ) where
       let more : 0 < count (cons v vs) = omega arith in
       let is_more : nat_lt 0 (count (cons v vs)) ≡ true = lt-ltb 0 (count (cons v vs)) more in
       let f : refer a (place the_name') s ≡ Some (c, mid) =
-          ap (λ (b : Bool). option_map_or (λ (i : ℕ). refer a (path_from (Origin.Name the_name' i)) s) (if b then Some 0 else None) (fail a out_of_range s)) (sym is_more) ∙ e in
+      ap (λ (b : Bool). option_map_or (λ (i : ℕ). refer a (path_from (Origin.Name the_name' i)) s) (if b then Some 0 else None) (fail a out_of_range s)) (sym is_more) ∙ e in
       let h = answered success a (Register.Reference (place the_name')) s c mid f in
-      inl (h.code_is, record {
-        mid_is = h.state_is;
-        typed = λ o' f. (
-          let g : Some o ≡ Some o' = sym there ∙ f in
-          ap (λ (y : Object). y.type == setting.int) (sym (Some_inj g)) ∙ is
-        );
-      })
+      inl (
+        h.code_is,
+        record {
+          mid_is = h.state_is;
+          typed = λ o' f. (
+              let g : Some o ≡ Some o' = sym there ∙ f in
+              ap (λ (y : Object). y.type == setting.int) (sym (Some_inj g)) ∙ is
+              );
+        },
+      )
 
   item_some : (a : ℕ) (s : State) (c : Answer) (mid : State) (o : Object) → s.names the_name' ≡ Some o → (b : Bool) → (o.type == setting.int) ≡ b
       → (if b then option_map_or (λ (i : ℕ). refer a (path_from (Origin.Name the_name' i)) s) (index_below (count o.values) (pos 0)) (fail a out_of_range s) else fail a other_type s) ≡ Some (c, mid)
@@ -398,7 +407,7 @@ module _ (setting : Setting) (x : ℕ) where
     unfolding effect
     finds is first room c mid e =
         let f : ((slice_get constants (constant_operand i.number) >>= λ (k : Constant). constant_name k (register s i.b)) >>= λ (n : List ℕ). integer_or (pos 0) i.c s >>= λ (y : ℤ). item_of_object i.a n (type_operand i.number) y (s.names n) s) ≡ Some (c, mid) =
-            ap (λ (op : Operation). effect constants op i.a i.b i.c i.number room s) (sym is) ∙ e in
+        ap (λ (op : Operation). effect constants op i.a i.b i.c i.number room s) (sym is) ∙ e in
         finds_item i.a s c mid (s.names the_name') refl
         (ap (λ (t : ℕ). item_of_object i.a the_name' t (pos 0) (s.names the_name') s) (sym type)
         ∙ ap (λ (r : ℕ). integer_or (pos 0) r s >>= λ (y : ℤ). item_of_object i.a the_name' (type_operand i.number) y (s.names the_name') s) (sym first)
@@ -417,7 +426,7 @@ module _ (setting : Setting) (x : ℕ) where
     unfolding effect
     destroys is room c mid e =
         let f : ((slice_get constants (constant_operand i.number) >>= λ (k : Constant). constant_name k (register s i.b)) >>= λ (n : List ℕ). destroy_object i.a n (type_operand i.number) (s.names n) s) ≡ Some (c, mid) =
-            ap (λ (op : Operation). effect constants op i.a i.b i.c i.number room s) (sym is) ∙ e in
+        ap (λ (op : Operation). effect constants op i.a i.b i.c i.number room s) (sym is) ∙ e in
         destroys_by i.a s c mid (s.names the_name') refl
         (ap (λ (t : ℕ). destroy_object i.a the_name' t (s.names the_name') s) (sym type)
         ∙ ap (λ (o : Option (List ℕ)). o >>= λ (n : List ℕ). destroy_object i.a n (type_operand i.number) (s.names n) s) (sym the_name_is) ∙ f)

@@ -60,12 +60,13 @@ opener_simulates : (constants : List Constant) (i : Instruction) (P Good Bad Q :
     → (end ≡ stuck) ⊎ ((m' : Moment) × does m m' end × (m'.world ≡ world_of s') × (end ≡ finished → Q m' s'))
 opener_simulates constants i P Good Bad Q does one two first second opens f g m s s' n end p (inl (answer, mid, k, row, w, e)) =
     elim (picked_part answer first second mid s' k end w) [
-      inl h ↦
-        let a = opens.good m s mid p (subst (λ x. (plain_machine constants).row i s x mid) h.0 row) in
-        elim (f.each a.0 mid s' k end a.1 h.1) [ inl b ↦ inl b | inr b ↦ inr (b.0, a.2 b.0 end b.1, b.2, b.3) ]
-    | inr h ↦
-        let a = opens.bad m s mid answer h.0 p row in
-        elim (g.each a.0 mid s' k end a.1 h.1) [ inl b ↦ inl b | inr b ↦ inr (b.0, a.2 b.0 end b.1, b.2, b.3) ] ]
+      | inl h ↦
+          let a = opens.good m s mid p (subst (λ x. (plain_machine constants).row i s x mid) h.0 row) in
+          elim (f.each a.0 mid s' k end a.1 h.1) [ inl b ↦ inl b | inr b ↦ inr (b.0, a.2 b.0 end b.1, b.2, b.3) ]
+      | inr h ↦
+          let a = opens.bad m s mid answer h.0 p row in
+          elim (g.each a.0 mid s' k end a.1 h.1) [ inl b ↦ inl b | inr b ↦ inr (b.0, a.2 b.0 end b.1, b.2, b.3) ]
+    ]
 opener_simulates constants i P Good Bad Q does one two first second opens f g m s s' n end p (inr (inl (stops, e, h))) = absurd (opens.stop m s s' p stops)
 opener_simulates constants i P Good Bad Q does one two first second opens f g m s s' n end p (inr (inr (none, e, h, is))) = inl is
 

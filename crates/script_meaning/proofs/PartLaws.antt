@@ -31,7 +31,7 @@ if_row : (constants : List Constant) (i : Instruction) (room : Bool) (s s' : Sta
 unfolding effect
 if_row constants i room s s' answer k is holds e =
     let f : Some ((if same_int k (pos 0) then is_zero else success), s) ≡ Some (answer, s') =
-      sym (ap (λ op. effect constants op i.a i.b i.c i.number room s) is ∙ ap (λ x. integer_in x >>= λ y. Some ((if same_int y (pos 0) then is_zero else success), s)) holds) ∙ e in
+    sym (ap (λ op. effect constants op i.a i.b i.c i.number room s) is ∙ ap (λ x. integer_in x >>= λ y. Some ((if same_int y (pos 0) then is_zero else success), s)) holds) ∙ e in
     let g : ((if same_int k (pos 0) then is_zero else success), s) ≡ (answer, s') = Some_inj f in
     (sym (ap (λ x. x.1) g), sym (ap (λ x. x.0) g))
 
@@ -122,15 +122,20 @@ module _ (constants : List Constant) (held : Held) (r : ℕ) (number : Moment �
       → (m : Moment) (s s' : State) (n : ℕ) (end : Ending) → HoldsNumber held r number m s → Loops State (plain_machine constants) r (suc turns) body s s' n end
       → (end ≡ stuck) ⊎ ((m' : Moment) × Turns (suc turns) number does m m' end × (m'.world ≡ world_of s') × (end ≡ finished → HoldsNumber held r number m' s'))
   turn_simulates turns more m s s' n end p (inl (is, w)) =
-      inr (m, subst (λ k. Chosen (is_true k) (Then does (Turns turns number does) m m end) (Stays m m end)) (sym (number_is m s (pos 0) p is)) (refl, w.ends),
-      subst (λ t. m.world ≡ world_of t) (sym w.same) (sym p.holds.world), λ _. subst (HoldsNumber held r number m) (sym w.same) p)
+      inr (
+        m,
+        subst (λ k. Chosen (is_true k) (Then does (Turns turns number does) m m end) (Stays m m end)) (sym (number_is m s (pos 0) p is)) (refl, w.ends),
+        subst (λ t. m.world ≡ world_of t) (sym w.same) (sym p.holds.world),
+        λ _. subst (HoldsNumber held r number m) (sym w.same) p,
+      )
   turn_simulates turns more m s s' n end p (inr (inl (k, is, nonzero, w))) =
       let f = step_simulates constants (holding held) (HoldsNumber held r number) (Then does (Turns turns number does)) _
-        (simulates_then (holding held) (HoldsNumber held r number) (HoldsNumber held r number) does (Turns turns number does) body (Loops State (plain_machine constants) r turns body) inside more) in
+      (simulates_then (holding held) (HoldsNumber held r number) (HoldsNumber held r number) does (Turns turns number does) body (Loops State (plain_machine constants) r turns body) inside more) in
       let e : is_true (number m) ≡ true = nonzero_true (number m) (λ z. nonzero (sym (number_is m s k p is) ∙ z)) in
       elim (f.each m s s' n end p.holds w) [
-        inl b ↦ inl b
-      | inr b ↦ inr (b.0, subst (λ x. Chosen x (Then does (Turns turns number does) m b.0 end) (Stays m b.0 end)) (sym e) b.1, b.2, b.3) ]
+        | inl b ↦ inl b
+        | inr b ↦ inr (b.0, subst (λ x. Chosen x (Then does (Turns turns number does) m b.0 end) (Stays m b.0 end)) (sym e) b.1, b.2, b.3)
+      ]
   turn_simulates turns more m s s' n end p (inr (inr (none, e, f, g))) = inl g
 
   -- iterations, each of which begins and ends with the number in the register
@@ -145,7 +150,7 @@ module _ (constants : List Constant) (held : Held) (r : ℕ) (number : Moment �
   loop_simulates register turns turns' e f =
       let tick : State → State → Type 0 = (plain_machine constants).tick in
       let Goal : ℕ → ℕ → Type 0 = λ register turns'. Simulates (HoldsNumber held r number) (Turns turns number does)
-        (run.Then State (OneStep State tick) (Loops State (plain_machine constants) register turns' body)) (HoldsNumber held r number) in
+      (run.Then State (OneStep State tick) (Loops State (plain_machine constants) register turns' body)) (HoldsNumber held r number) in
       subst (λ k. Goal k turns') (sym e) (subst (λ k. Goal r k) (sym f) (step_simulates constants (HoldsNumber held r number) (HoldsNumber held r number) (Turns turns number does) _ (turns_simulate turns)))
 
 while_role : (op : Operation) → op ≡ operation.While → (row_of op).role ≡ Role.Loop
@@ -160,7 +165,7 @@ while_law c at body end after held r turns number does opened inside ended =
     let i : Instruction = opened.0 in
     let t : Tests c at body held operation.While i number = opened.1 in
     let part : IsPart c body after operation.End (holding held) does (HoldsNumber held r number)
-      = part_law c body end after operation.End (holding held) (holding held) (HoldsNumber held r number) does inside ended in
+    = part_law c body end after operation.End (holding held) (holding held) (HoldsNumber held r number) does inside ended in
     hidden_then (texts_of c) (code_of c) at t.start after (holding held) (HoldsNumber held r number) (HoldsNumber held r number) (Turns turns number does)
     (subst (λ x. Follows c at t.start (holding held) Stays (HoldsNumber held x number)) opened.2 t.before)
     (loop_law c t.start body after i (HoldsNumber held r number) (holding held) (HoldsNumber held r number) (HoldsNumber held r number) (Turns turns number does) does t.there t.after

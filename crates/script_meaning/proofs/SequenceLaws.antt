@@ -77,8 +77,9 @@ simulates_then P Q R first second one two f g = record { each = λ m s s' n e p 
     by : (m : Moment) (s s' : State) (n : ℕ) (e : Ending) → P m s → run.Then State one two s s' n e
         → (e ≡ stuck) ⊎ ((m' : Moment) × Then first second m m' e × (m'.world ≡ world_of s') × (e ≡ finished → R m' s'))
     by m s s' n e p (inl (t, k, l, x, y, h)) = elim (f.each m s t k finished p x) [
-        inl b ↦ absurd (let a : finished ≡ stuck = b in cc)
-      | inr b ↦ elim (g.each b.0 t s' l e (b.3 refl) y) [ inl a ↦ inl a | inr a ↦ inr (a.0, inl (b.0, b.1, a.1), a.2, a.3) ] ]
+      | inl b ↦ absurd (let a : finished ≡ stuck = b in cc)
+      | inr b ↦ elim (g.each b.0 t s' l e (b.3 refl) y) [ inl a ↦ inl a | inr a ↦ inr (a.0, inl (b.0, b.1, a.1), a.2, a.3) ]
+    ]
     by m s s' n e p (inr (x, h)) = elim (f.each m s s' n e p x) [ inl b ↦ inl b | inr b ↦ inr (b.0, inr (b.1, h), b.2, λ a. absurd (h a)) ]
 
 module _ (constants : List Constant) (L : List Instruction) where

@@ -33,6 +33,7 @@ module _ (types : Table) (constants : List Constant) where
 
   mutual
     unfolding IsCode listing
+
     code_valid : (cs : Statements) → IsCode types constants cs → All IsValid (listing cs)
     code_valid no_more h = All-nil IsValid
     code_valid (next c cs) h = All-append IsValid (listing_one c) (listing cs) (statement_valid c h.0) (code_valid cs h.1)
@@ -66,6 +67,7 @@ module _ (types : Table) (constants : List Constant) where
 
   mutual
     unfolding IsCode listing
+
     has_code : (cs : Statements) → HasRoles cs → All IsValid (listing cs) → IsCode types constants cs
     has_code no_more roles all = tt
     has_code (next c cs) roles all =

@@ -47,8 +47,8 @@ whole_means c program tree valid code texts objects int whole =
     meaning = record {
       int_type = objects_typed c program tree objects int;
       each = λ s s' n end count run. elim (whole.simulates.each (first_moment s) s s' n end (first_holds s count) (runs s s' n end run)) [
-        inl went_wrong ↦ inl went_wrong
-      | inr done ↦ inr (done.0, done.1, done.2)
+        | inl went_wrong ↦ inl went_wrong
+        | inr done ↦ inr (done.0, done.1, done.2)
       ];
     }
 

@@ -37,7 +37,12 @@ impl Comparison<'_> {
             Code::End => Some(at),
             Code::Set(variable, number, rest) => {
                 let set = self.set(knowledge, *variable, number, at, &held)?;
-                self.code(knowledge, rest, set.after, held.with(set.register, *variable))
+                self.code(
+                    knowledge,
+                    rest,
+                    set.after,
+                    held.with(set.register, *variable),
+                )
             }
             Code::Print(bytes, rest) => {
                 let after = self.print(knowledge, bytes.as_slice(), at, &held)?;

@@ -353,7 +353,9 @@ impl Comparison<'_> {
     {
         let start = self.settled(knowledge, at, held)?;
         let kill = self.instruction(start)?;
-        if kill.operation != Operation::Kill || !self.is_about(kill, object) || !held.is_free(kill.a)
+        if kill.operation != Operation::Kill
+            || !self.is_about(kill, object)
+            || !held.is_free(kill.a)
         {
             return None;
         }
@@ -369,12 +371,7 @@ impl Comparison<'_> {
 }
 
 /// The register that contains the new number of a variable, if all others contain what they should.
-fn place_for(
-    knowledge: &Knowledge,
-    held: &Held,
-    variable: usize,
-    number: TermAt,
-) -> Option<u8>
+fn place_for(knowledge: &Knowledge, held: &Held, variable: usize, number: TermAt) -> Option<u8>
     ensures place { IfSome result (λ register.
         HasPlace held.now.variables register variable) }
     ensures holds { IfSome result (λ register. (setting : Setting) (m : Moment) (s : State) (k : ℤ)

@@ -31,12 +31,15 @@ copy_gives old i at is there = λ setting m s knows. let (k, has, in_b) = knows.
 computed_gives : (old new : Knowledge) (i : Instruction) (c : Computation) (op : Operation) (left right at : ℕ) → Computes (operator_of c) op → i.operation ≡ op
     → slice_get old.registers i.b ≡ Some (Some left) → slice_get old.registers i.c ≡ Some (Some right)
     → ((setting : Setting) (m : Moment) (x y : ℤ) → HasValue setting m old.terms.list.items left x → HasValue setting m old.terms.list.items right y
-        → HasValue setting m new.terms.list.items at (combined (operator_of c) x y))
+    → HasValue setting m new.terms.list.items at (combined (operator_of c) x y))
     → GivesTerm old new i at
 computed_gives old new i c op left right at computes is first second value = λ setting m s knows.
-    let (x, x_has, in_b) = knows.each i.b left first in let (y, y_has, in_c) = knows.each i.c right second in
-    (combined (operator_of c) x y, value setting m x y x_has y_has, λ constants room. ap (λ (o : Operation). effect constants o i.a i.b i.c i.number room s) is
-    ∙ computes constants i.a i.b i.c i.number room s x y in_b in_c)
+    let (x, x_has, in_b) = knows.each i.b left first in let (y, y_has, in_c) = knows.each i.c right second in (
+      combined (operator_of c) x y,
+      value setting m x y x_has y_has,
+      λ constants room. ap (λ (o : Operation). effect constants o i.a i.b i.c i.number room s) is
+          ∙ computes constants i.a i.b i.c i.number room s x y in_b in_c,
+    )
 
 pub returns-in-Const-clause-value : goal.returns-in-Const-clause-value
 returns-in-Const-clause-value c =
@@ -50,11 +53,12 @@ returns-in-Mov-clause-value c = if_some _ _ c.term.result (λ at there. copy_giv
 
 pub returns-clause-value : goal.returns-clause-value
 returns-clause-value c = elim c.match-instruction.branch [
-      in-Add w ↦ gives computation.Add operation.Add adds w.in-Add.is w.computation-is
-    | in-Sub w ↦ gives computation.Subtract operation.Sub subtracts w.in-Sub.is w.computation-is
-    | in-Mul w ↦ gives computation.Multiply operation.Mul multiplies w.in-Mul.is w.computation-is
-    | in-Less w ↦ gives computation.Less operation.Less is_less w.in-Less.is w.computation-is
-    | in-Equal w ↦ gives computation.Equal operation.Equal is_equal w.in-Equal.is w.computation-is ]
+  | in-Add w ↦ gives computation.Add operation.Add adds w.in-Add.is w.computation-is
+  | in-Sub w ↦ gives computation.Subtract operation.Sub subtracts w.in-Sub.is w.computation-is
+  | in-Mul w ↦ gives computation.Multiply operation.Mul multiplies w.in-Mul.is w.computation-is
+  | in-Less w ↦ gives computation.Less operation.Less is_less w.in-Less.is w.computation-is
+  | in-Equal w ↦ gives computation.Equal operation.Equal is_equal w.in-Equal.is w.computation-is
+]
   where
     gives : (m : Computation) (op : Operation) → Computes (operator_of m) op → c.args.instruction.operation ≡ op → c.match-instruction.computation ≡ m
         → IfSome c.computed.result (λ at. GivesTerm c.args.knowledge.now record { terms = c.computed.new.self; registers = c.args.knowledge.now.registers } (instruction_of c.args.instruction) at)

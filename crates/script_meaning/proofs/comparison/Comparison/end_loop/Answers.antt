@@ -15,7 +15,7 @@ returns c =
     let term : Some (Some c.in_ok-term.field-0) ≡ Some (Some c.in_ok-after.field-0.term) = ap (λ (t : ℕ). Some (Some t)) c.if-branch-term.false in
     both_then c.mark.result (λ after. IsAt c.args.self.now start (mark operation.End)) (λ after. after ≡ start + 1)
     (λ after. Marks c.args.self.now c.args.at after operation.End (holding c.args.held.now.variables)
-        (HoldsNumber c.args.held.now.variables c.args.register (λ m. value (setting_of c.args.self.now) m c.args.number.now)))
+    (HoldsNumber c.args.held.now.variables c.args.register (λ m. value (setting_of c.args.self.now) m c.args.number.now)))
     c.mark.ensures.there c.mark.ensures.after
     (λ after there follows. record {
       start = start;

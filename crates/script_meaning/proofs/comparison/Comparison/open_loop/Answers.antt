@@ -18,6 +18,9 @@ converted F (negsuc n) turns (Err d) fails e = absurd (let f : false ≡ true = 
 
 pub returns : goal.returns
 returns c =
-    let fits : FitsSigned w32 c.in_ok-body.instruction.number = search rules in
-    (instruction_of c.in_ok-body.instruction, c.in_ok-body.ensures, refl,
-    sym (to_z-of_z w32 c.in_ok-body.instruction.number fits) ∙ converted _ _ c.args.turns c.try_from.result c.try_from.ensures c.if-ne.ensures)
+    let fits : FitsSigned w32 c.in_ok-body.instruction.number = search rules in (
+      instruction_of c.in_ok-body.instruction,
+      c.in_ok-body.ensures,
+      refl,
+      sym (to_z-of_z w32 c.in_ok-body.instruction.number fits) ∙ converted _ _ c.args.turns c.try_from.result c.try_from.ensures c.if-ne.ensures,
+    )

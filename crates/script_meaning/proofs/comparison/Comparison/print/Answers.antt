@@ -9,4 +9,4 @@ returns c =
     let ties = holding c.args.held.now.variables in
     IfSome_then c.texts.result c.texts.ensures
     (λ after writes. hidden_then (texts_of c.args.self.now) (code_of c.args.self.now) c.args.at c.in_ok-start.start after ties ties ties (Writes (λ m. c.args.bytes.now))
-        c.in_ok-start.ensures (writes c.args.held.now.variables))
+    c.in_ok-start.ensures (writes c.args.held.now.variables))

@@ -11,7 +11,7 @@ pub returns : goal.returns
 returns c =
     let i = instruction_of c.in_ok-instruction.instruction in
     let same : c.in_ok-instruction.instruction.operation ≡ c.args.operation =
-        same_true the_type (search rules) c.in_ok-instruction.instruction.operation c.args.operation (not_false _ c.if-ne.ensures) in
+    same_true the_type (search rules) c.in_ok-instruction.instruction.operation c.args.operation (not_false _ c.if-ne.ensures) in
     let term : Some (Some c.in_ok-term.field-0) ≡ Some (Some c.in_ok-after.field-0.term) = ap (λ (t : ℕ). Some (Some t)) c.if-branch-term.false in
     let after : suc c.in_ok-after.field-0.after ≡ c.in_ok-checked_add.field-0 = omega arith in
     subst (λ body. Tests c.args.self.now c.args.at body c.args.held.now.variables c.args.operation i (λ m. value (setting_of c.args.self.now) m c.args.number.now)) after

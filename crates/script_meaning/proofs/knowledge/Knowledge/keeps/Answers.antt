@@ -7,9 +7,10 @@ use Rattle.script_meaning.proofs.knowledge.Knowledge.keeps.Goals.{in-Some+else-n
 
 pub loop-register-preserved : goal.loop-register-preserved
 loop-register-preserved c = below_more _ _ c.loop-register.invariant (λ v is setting m s knows. elim c.match-held-register.branch [
-      in-Some+else-not-contains w ↦ w.contains.ensures w.if-not-contains.false setting m s knows
+  | in-Some+else-not-contains w ↦ w.contains.ensures w.if-not-contains.false setting m s knows
       ∙ ap (λ u. Register.Int (m.variables u)) (held_is c.args.held.now.variables c.loop-register.register v w.in-Some.variable is w.in-Some.is)
-    | in_default w ↦ absurd (w.in_default.not-Some v (get_or_from_slice_get c.args.held.now.variables c.loop-register.register (Some v) None is)) ])
+  | in_default w ↦ absurd (w.in_default.not-Some v (get_or_from_slice_get c.args.held.now.variables c.loop-register.register (Some v) None is))
+])
 
 pub returns : goal.returns
 returns c = λ is setting m s knows.

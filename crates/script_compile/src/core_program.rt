@@ -122,9 +122,7 @@ impl<'a> Reader<'a> {
                 ..
             } => self.set(first, place, operator, items, rest, depth),
             StatementKind::If(condition) => self.branch(first, condition, rest, depth),
-            StatementKind::IfLet { name, value } => {
-                self.find(first, name, &value, rest, depth)
-            }
+            StatementKind::IfLet { name, value } => { self.find(first, name, &value, rest, depth) }
             StatementKind::While { condition, max } => {
                 self.repeat(first, condition, max, rest, depth)
             }
@@ -248,12 +246,7 @@ impl<'a> Reader<'a> {
         let number = self.number(condition, MOST_DEPTH)?;
         let on_true = self.body(statement, depth)?;
         let on_false = self.otherwise(statement.otherwise, depth)?;
-        Ok(Code::If(
-            number,
-            on_true,
-            on_false,
-            self.rest(rest, depth)?,
-        ))
+        Ok(Code::If(number, on_true, on_false, self.rest(rest, depth)?))
     }
 
     #[cycle(core)]
