@@ -12,6 +12,7 @@ use cli_host::{
 use cli_program::{Failure, print};
 use lezgauri::{Image, Sink, Verified};
 use script_compile::Client;
+use script_meaning::shown_core;
 use std::alloc::{AllocError, Global};
 
 /// `verify FILE CLIENT`: prints the most steps that the client can take on the image; of a program or a text also what each line
@@ -70,7 +71,7 @@ fn verify_client<'a, O: Sink>(
         Some(text) if !out.failed() => {
             let mut table = steps_of(alloc, text.bytes, client.lines.as_slice(), &verified)?;
             if text.is_program {
-                table.push_str(meaning_line(client))?;
+                table.push_str(meaning_line(alloc, text.bytes, client)?)?;
             }
             print(out, table.as_bytes())
         }
@@ -79,11 +80,15 @@ fn verify_client<'a, O: Sink>(
 }
 
 /// Whether a program's client was shown to do what the program says.
-fn meaning_line(client: &Client) -> &'static str {
-    match client.core {
+fn meaning_line(
+    alloc: Global,
+    program: &[u8],
+    client: &Client,
+) -> Result<&'static str, AllocError> {
+    Ok(match shown_core(alloc, program, client.bytes.as_slice())? {
         Some(_) => "meaning shown\n",
         None => "meaning not shown\n",
-    }
+    })
 }
 
 /// What each line of a program or a text costs.

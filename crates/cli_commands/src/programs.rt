@@ -183,7 +183,6 @@ fn plain_client(bytes: Vec<u8>, lines: Vec<usize>) -> Client {
         lines,
         variables: Vec::new(alloc),
         warnings: String::new(alloc),
-        core: None,
     }
 }
 

@@ -1,15 +1,11 @@
 //! From a program's text to a client, or to lines that tell what is wrong.
-ghost use Rattle.std.specs.Prelude.{IfOk, IfSome};
-ghost use Rattle.script_meaning.specs.Following.{FileMeans};
 
-use crate::core_program::core_of;
 use crate::entry::{Translation, translate};
 use crate::failure::{Failure, Wrong};
 use crate::report::Report;
 use crate::variables::VariableChange;
 use client_code::TypeTable;
 use script_code::Warning;
-use script_meaning::{Program, has_meaning};
 use script_syntax::{Span, Tree, parse};
 use std::alloc::{AllocError, Global};
 
@@ -24,8 +20,6 @@ pub struct Client {
     pub variables: Vec<VariableChange>,
     /// A line for each warning, with the line of the program and a hint.
     pub warnings: String,
-    /// The program as one of the core, if the client was shown to do what it says.
-    pub core: Option<Program>,
 }
 
 /// Why a program has no client.
@@ -43,16 +37,13 @@ impl From<AllocError> for Refusal {
     }
 }
 
-/// Compiles the program in a file with this name, for the types of an image. If the result has a `core`, the client does what that
-/// program of the core says.
+/// Compiles the program in a file with this name, for the types of an image.
 pub fn client_of(
     alloc: Global,
     file: &str,
     text: &[u8],
     image: &TypeTable,
-) -> Result<Client, Refusal>
-    ensures { IfOk result (λ client. IfSome client.core (FileMeans client.bytes.items)) }
-{
+) -> Result<Client, Refusal> {
     let report = Report::new(alloc, file, text);
     match parse(alloc, text) {
         Ok(tree) => client_of_tree(alloc, &tree, image, report),
@@ -68,11 +59,9 @@ fn client_of_tree(
     tree: &Tree<'_>,
     image: &TypeTable,
     report: Report<'_>,
-) -> Result<Client, Refusal>
-    ensures { IfOk result (λ client. IfSome client.core (FileMeans client.bytes.items)) }
-{
+) -> Result<Client, Refusal> {
     match translate(alloc, tree, image) {
-        Ok(translation) => Ok(told_client(alloc, tree, translation, report)?),
+        Ok(translation) => Ok(told_client(alloc, translation, report)?),
         Err(Failure::Errors(wrong)) => Err(refused(error_lines(report, &wrong))),
         Err(Failure::Memory) => Err(Refusal::Memory),
     }
@@ -81,41 +70,19 @@ fn client_of_tree(
 /// The client, with its warnings.
 fn told_client(
     alloc: Global,
-    tree: &Tree<'_>,
     translation: Translation,
     report: Report<'_>,
-) -> Result<Client, AllocError>
-    ensures { IfOk result (λ client. IfSome client.core (FileMeans client.bytes.items)) }
-{
+) -> Result<Client, AllocError> {
     let Translation {
         compiled,
         variables,
     } = translation;
-    let bytes = compiled.file(alloc)?;
-    let core = shown_core(alloc, tree, bytes.as_slice())?;
     Ok(Client {
-        bytes,
+        bytes: compiled.file(alloc)?,
         lines: lines_of(alloc, compiled.places.as_slice())?,
         variables,
         warnings: warning_lines(report, compiled.warnings.as_slice())?,
-        core,
     })
-}
-
-/// The program as one of the core, if the client in a file was shown to do what it says.
-fn shown_core(alloc: Global, tree: &Tree<'_>, file: &[u8]) -> Result<Option<Program>, AllocError>
-    ensures { IfOk result (λ core. IfSome core (FileMeans file.now)) }
-{
-    let Some(program) = core_of(alloc, tree)? else {
-        return Ok(None);
-    };
-    let Ok(client) = client_code::parse(file) else {
-        return Ok(None);
-    };
-    if has_meaning(alloc, &program, &client)? {
-        return Ok(Some(program));
-    }
-    Ok(None)
 }
 
 fn lines_of(alloc: Global, places: &[Span]) -> Result<Vec<usize>, AllocError> {

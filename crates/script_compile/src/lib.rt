@@ -6,7 +6,6 @@ mod calls;
 mod client;
 mod compiler;
 mod constructs;
-mod core_program;
 mod entry;
 mod failure;
 mod loops;

@@ -2,6 +2,7 @@
 #![tactic(auto)]
 
 mod comparison;
+mod core_program;
 mod hidden;
 mod knowledge;
 mod meaning;
@@ -9,5 +10,6 @@ mod program;
 mod statements;
 mod terms;
 
-pub use meaning::has_meaning;
+pub use core_program::core_of;
+pub use meaning::{has_meaning, shown_core};
 pub use program::{Code, Number, Operator, Program};

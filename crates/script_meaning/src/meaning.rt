@@ -8,6 +8,7 @@ ghost use Rattle.script_meaning.specs.Following.{FileMeans};
 ghost use Rattle.script_meaning.specs.Comparing.{IsWhole};
 
 use crate::comparison::Comparison;
+use crate::core_program::core_of;
 use crate::knowledge::{Held, Knowledge};
 use crate::program::Program;
 use client_code::{Client, Instruction, Type, TypeId, TypeTable};
@@ -34,6 +35,28 @@ pub fn has_meaning(
         int,
     };
     Ok(comparison.is_whole(program))
+}
+
+/// The program of the core that a text is, if it was shown that the client in a file does what this program says. `None` if the
+/// text isn't a program of the core, or if the client does the same in another way than the compiler writes it.
+pub fn shown_core(alloc: Global, text: &[u8], file: &[u8]) -> Result<Option<Program>, AllocError>
+    ensures { IfOk result (λ core. IfSome core (FileMeans file.now)) }
+{
+    let tree = match script_syntax::parse(alloc, text) {
+        Ok(tree) => tree,
+        Err(script_syntax::Failure::Memory) => return Err(AllocError),
+        Err(script_syntax::Failure::Errors(_)) => return Ok(None),
+    };
+    let Some(program) = core_of(alloc, &tree)? else {
+        return Ok(None);
+    };
+    let Ok(client) = client_code::parse(file) else {
+        return Ok(None);
+    };
+    if has_meaning(alloc, &program, &client)? {
+        return Ok(Some(program));
+    }
+    Ok(None)
 }
 
 /// All instructions of a client.

@@ -1,5 +1,5 @@
 use Rattle.std.proofs.Common.{◌+◌, ◌*◌}
-use Rattle.script_compile.proofs.core_program.Reader.+core.Given as goal
+use Rattle.script_meaning.proofs.core_program.Reader.+core.Given as goal
 
 abbrev pub decreases-block : goal.decreases-block
 decreases-block l = 2 * l.depth

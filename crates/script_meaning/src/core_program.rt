@@ -3,7 +3,7 @@
 
 ghost use Rattle.std.specs.Prelude.{◌<◌, IfOk};
 
-use script_meaning::{Code, Number, Operator, Program};
+use crate::program::{Code, Number, Operator, Program};
 use script_syntax::{
     BaseType, BinaryOperator, Block, Declaration, DeclarationKind, ElsePart, ExpressionAt,
     ExpressionKind, Item, Range, SetOperator, Span, Statement, StatementKind, Tree, Type,

@@ -1,4 +1,4 @@
-use Rattle.script_compile.proofs.core_program.Reader.+number.Given as goal
+use Rattle.script_meaning.proofs.core_program.Reader.+number.Given as goal
 
 abbrev pub decreases-number : goal.decreases-number
 decreases-number l = l.depth
