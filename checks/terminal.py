@@ -6,7 +6,8 @@
 Compiles a program with an error and one with a warning, with the error output on a pseudo-terminal or in a pipe, and
 compares what is written with a text in which the colours are marked. Then runs a program that counts for some seconds,
 and commands on large images: a terminal shows a bar that grows, for each kind of work, and that is removed before the
-output."""
+output. The output is the same without a bar."""
+import filecmp
 import os
 import pty
 import re
@@ -98,11 +99,11 @@ def shown(text, is_coloured):
     return "".join((colour if is_coloured else "") if (colour := COLOURS.get(letter)) else letter for letter in text)
 
 
-def on_terminal(words, folder, env):
-    """What a command writes to its error output, if that is a terminal."""
+def on_terminal(words, folder, env, out=subprocess.DEVNULL):
+    """What a command writes to its error output, if that is a terminal. Its output goes to a file."""
     ours, theirs = pty.openpty()
     try:
-        ran = subprocess.Popen(words, cwd=folder, env=env, stdout=subprocess.DEVNULL, stderr=theirs)
+        ran = subprocess.Popen(words, cwd=folder, env=env, stdout=out, stderr=theirs)
         os.close(theirs)
         written = b""
         while True:
@@ -119,9 +120,9 @@ def on_terminal(words, folder, env):
     return written.decode().replace("\r\n", "\n")
 
 
-def in_pipe(words, folder, env):
-    """What a command writes to its error output, if that is a pipe."""
-    return subprocess.run(words, cwd=folder, env=env, stdout=subprocess.DEVNULL, stderr=subprocess.PIPE, text=True, check=False).stderr
+def in_pipe(words, folder, env, out=subprocess.DEVNULL):
+    """What a command writes to its error output, if that is a pipe. Its output goes to a file."""
+    return subprocess.run(words, cwd=folder, env=env, stdout=out, stderr=subprocess.PIPE, text=True, check=False).stderr
 
 
 BAR = re.compile(r"\r([a-z]+) \[(#*) *\](?: +(\d+) %)?\x1b\[K")
@@ -148,15 +149,21 @@ def has_bars(shown, words):
 
 
 def wrong_bars(segtool, words, works, folder, plain):
-    """How many of the error outputs of a long command are wrong: on a terminal, and without one that takes a bar."""
-    shown = on_terminal([segtool, *words], folder, plain)
+    """How many of the outputs of a long command are wrong: on a terminal, and without one that takes a bar."""
+    command = [segtool, *words]
+    with open(Path(folder, "with_bar"), "wb") as out:
+        shown = on_terminal(command, folder, plain, out)
+    with open(Path(folder, "without"), "wb") as out:
+        quiet = [in_pipe(command, folder, plain, out), on_terminal(command, folder, {**plain, "TERM": "dumb"})]
     is_right = has_bars(shown, works)
     if not is_right:
         print(f"{words}: {bars(shown)} and not {works}: {shown[-400:]!r}")
-    quiet = [on_terminal([segtool, *words], folder, {**plain, "TERM": "dumb"}), in_pipe([segtool, *words], folder, plain)]
     for it in filter(None, quiet):
         print(f"{words}, without a bar: {it!r}")
-    return (not is_right) + sum(map(bool, quiet))
+    is_same = filecmp.cmp(Path(folder, "with_bar"), Path(folder, "without"), shallow=False)
+    if not is_same:
+        print(f"{words} prints something else if it shows a bar")
+    return (not is_right) + sum(map(bool, quiet)) + (not is_same)
 
 
 def wrong_commands(segtool, folder, plain):
