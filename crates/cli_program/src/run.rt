@@ -46,7 +46,8 @@ pub fn run_inputs<'a, F: Files, O: Sink>(
         (O.taken out.new)) }
     ensures nothing_read { F.was_read files.new ≡ F.was_read files.old }
 {
-    let outcome = outcome_of(alloc, run, inputs, out, watch)?;
+    watch.begin(Work::Checking, inputs.image.len() as u64);
+    let outcome = outcome_of(alloc, run, inputs, out)?;
     save(
         files,
         run.out,
@@ -56,13 +57,12 @@ pub fn run_inputs<'a, F: Files, O: Sink>(
     )
 }
 
-/// Checks an image, and runs the clients on it.
+/// Runs the clients on an image.
 fn outcome_of<O: Sink>(
     alloc: Global,
     run: &Run,
     inputs: Inputs,
     out: &mut O,
-    watch: &dyn Watch,
 ) -> Result<Outcome<Global>, Refused>
     requires works { O.has_failed out.old ≡ false }
     ensures refused { IfErr result (IsRefusal (job_of_run run.now (read_of inputs))) }
@@ -81,7 +81,6 @@ fn outcome_of<O: Sink>(
         base: run.base,
         moves: &[],
     };
-    watch.begin(Work::Checking, image.len() as u64);
     Ok(run_image(
         alloc,
         image,
