@@ -6,8 +6,8 @@ use crate::door::{assembled, opened, printed, verified};
 use crate::programs::{client_of, is_client_text, tell_warnings};
 use cli_explain::{ProgramLines, explain_steps};
 use cli_host::{
-    Assembly, Files, Format, is_program, read_file, read_image, refuse_input, refuse_other_format,
-    write_file,
+    Assembly, Files, Format, Watch, is_program, read_file, read_image, refuse_input,
+    refuse_other_format, write_file,
 };
 use cli_program::{Failure, print};
 use lezgauri::{Image, Sink, Verified};
@@ -15,22 +15,34 @@ use script_compile::Client;
 use script_meaning::shown_core;
 use std::alloc::{AllocError, Global};
 
+/// The files to verify: an image and a client. If it is explained, what each line of the client costs is asked for too.
+#[derive(Clone, Copy)]
+pub struct Verification<'a> {
+    pub image: &'a str,
+    pub client: &'a str,
+    pub explained: bool,
+}
+
 /// `verify FILE CLIENT`: prints the most steps that the client can take on the image; of a program or a text also what each line
 /// takes, if that is asked for.
 pub fn verify_file<'a, F: Files, O: Sink, E: Sink>(
     alloc: Global,
-    image: &'a str,
-    client: &'a str,
-    explained: bool,
+    verification: Verification<'a>,
     files: &mut F,
     out: &mut O,
     err: &mut E,
+    watch: &dyn Watch,
 ) -> Result<(), Failure<'a>>
     requires works { O.has_failed out.old ≡ false }
 {
+    let Verification {
+        image,
+        client,
+        explained,
+    } = verification;
     let image = read_image(alloc, files, image)?;
     let bytes = read_file(alloc, files, client)?;
-    let image = opened(alloc, image)?;
+    let image = opened(alloc, image, watch)?;
     let source = bytes.as_slice();
     let is_program = is_program(client);
     let text = if explained && (is_program || is_client_text(client, source)) {

@@ -2,7 +2,7 @@ ghost use Rattle.std.specs.Prelude.{◌≡◌, false};
 
 use crate::programs::{is_client_text, translated_again};
 use cli_explain::{Sources, explain};
-use cli_host::{Files, Request, has_source, read_file, read_files, read_image};
+use cli_host::{Files, Request, Watch, has_source, read_file, read_files, read_image};
 use cli_program::{Failure, slices, tell};
 use lezgauri::{Fault, Refused, Sink};
 use std::alloc::{AllocError, Global};
@@ -15,12 +15,13 @@ pub fn explain_failure<'a, F: Files, E: Sink>(
     failure: &Failure,
     files: &mut F,
     err: &mut E,
+    watch: &dyn Watch,
 ) -> Result<(), AllocError>
     requires works { E.has_failed err.old ≡ false }
 {
     match failure {
         Failure::Refused(refused) => {
-            let words = refusal(alloc, request, refused, files)?;
+            let words = refusal(alloc, request, refused, files, watch)?;
             tell(err, words.as_slice());
         }
         _ => {
@@ -37,11 +38,12 @@ fn refusal<'a, F: Files>(
     request: &Request<'a>,
     refused: &Refused,
     files: &mut F,
+    watch: &dyn Watch,
 ) -> Result<Vec<u8>, AllocError> {
     if let (Request::Load(_), Fault::BadLine(line)) = (request, refused.fault) {
         return wrong_dump(alloc, line);
     }
-    let read = Read::again(alloc, request, files)?;
+    let read = Read::again(alloc, request, files, watch)?;
     explained(alloc, refused, &read)
 }
 
@@ -87,6 +89,7 @@ impl<'a> Read<'a> {
         alloc: Global,
         request: &Request<'a>,
         files: &mut F,
+        watch: &dyn Watch,
     ) -> Result<Read<'a>, AllocError> {
         let image = match image_of(request) {
             Some(name) => read_image(alloc, files, name).ok(),
@@ -108,15 +111,16 @@ impl<'a> Read<'a> {
             sources,
             translated: None,
         };
-        read.translate(alloc);
+        read.translate(alloc, watch);
         Ok(read)
     }
 
     /// Translates programs and texts.
-    fn translate(&mut self, alloc: Global) {
+    fn translate(&mut self, alloc: Global, watch: &dyn Watch) {
         let names = self.names.as_slice();
         if let (Some(image), true) = (&self.image, has_source(names)) {
-            let clients = translated_again(alloc, names, self.sources.as_slice(), image.as_slice());
+            let sources = self.sources.as_slice();
+            let clients = translated_again(alloc, names, sources, image.as_slice(), watch);
             self.translated = Some(clients);
         }
     }

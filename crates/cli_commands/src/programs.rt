@@ -5,7 +5,7 @@ ghost use Rattle.std.specs.Prelude.{◌≡◌, false};
 use crate::door::{assembled, checked, compiled, parsed};
 use cli_explain::instruction_lines;
 use cli_host::{
-    Compilation, Files, Format, Run, has_source, is_program, is_text, read_file, read_image,
+    Compilation, Files, Format, Run, Watch, has_source, is_program, is_text, read_file, read_image,
     refuse_input, refuse_other_format, write_file,
 };
 use cli_program::{Failure, Inputs, read_inputs, run_inputs, tell};
@@ -20,6 +20,7 @@ pub fn compile_file<'a, F: Files, E: Sink>(
     compilation: &Compilation<'a>,
     files: &mut F,
     err: &mut E,
+    watch: &dyn Watch,
 ) -> Result<(), Failure<'a>> {
     let Compilation {
         program,
@@ -32,7 +33,8 @@ pub fn compile_file<'a, F: Files, E: Sink>(
     let types = match image {
         Some(image) => {
             refuse_input(files, client, image)?;
-            checked(alloc, read_image(alloc, files, image)?.as_slice())?
+            let image = read_image(alloc, files, image)?;
+            checked(alloc, image.as_slice(), watch)?
         }
         None => TypeTable::new(),
     };
@@ -63,6 +65,7 @@ pub fn run_sources<'a, F: Files, O: Sink, E: Sink>(
     files: &mut F,
     out: &mut O,
     err: &mut E,
+    watch: &dyn Watch,
 ) -> Result<(), Failure<'a>>
     requires works { O.has_failed out.old ≡ false }
 {
@@ -71,7 +74,7 @@ pub fn run_sources<'a, F: Files, O: Sink, E: Sink>(
         clients: sources,
         input,
     } = read_inputs(alloc, files, run)?;
-    let types = checked(alloc, image.as_slice())?;
+    let types = checked(alloc, image.as_slice(), watch)?;
     let Translated { clients, warnings } = translate_all(
         alloc,
         run.clients.as_slice(),
@@ -85,7 +88,7 @@ pub fn run_sources<'a, F: Files, O: Sink, E: Sink>(
         clients: files_of(alloc, clients)?,
         input,
     };
-    run_inputs(alloc, run, inputs, files, out)
+    run_inputs(alloc, run, inputs, files, out, watch)
 }
 
 /// Clients of which some were programs or texts, with the warnings of the programs.
@@ -201,8 +204,9 @@ pub(crate) fn translated_again(
     names: &[&str],
     sources: &[Vec<u8>],
     image: &[u8],
+    watch: &dyn Watch,
 ) -> Vec<Vec<u8>> {
-    match translated_files(alloc, names, sources, image) {
+    match translated_files(alloc, names, sources, image, watch) {
         Ok(files) => files,
         Err(_) => Vec::new(alloc),
     }
@@ -213,8 +217,9 @@ fn translated_files<'a>(
     names: &[&str],
     sources: &[Vec<u8>],
     image: &[u8],
+    watch: &dyn Watch,
 ) -> Result<Vec<Vec<u8>>, Failure<'a>> {
-    let types = checked(alloc, image)?;
+    let types = checked(alloc, image, watch)?;
     let Translated { clients, .. } = translate_all(alloc, names, sources, types, true)?;
     Ok(files_of(alloc, clients)?)
 }

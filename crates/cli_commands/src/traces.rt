@@ -4,7 +4,7 @@ ghost use Rattle.std.specs.Prelude.{◌≡◌, false};
 
 use crate::door::{opened, ready, types_left};
 use crate::programs::{Translated, tell_warnings, translate_all};
-use cli_host::{Files, Trace, read_files, read_image};
+use cli_host::{Files, Trace, Watch, read_files, read_image};
 use cli_program::{Failure, print, read_input};
 use client_trace::{LastLines, SourceMap, StepRange, Untraced, Variable, View, trace_view};
 use lezgauri::{Fault, Image, Ready, Refused, Sink, TypeTable};
@@ -20,13 +20,14 @@ pub fn trace_files<'a, F: Files, O: Sink, E: Sink>(
     files: &mut F,
     out: &mut O,
     err: &mut E,
+    watch: &dyn Watch,
 ) -> Result<(), Failure<'a>>
     requires works { O.has_failed out.old ≡ false }
 {
     let image = read_image(alloc, files, trace.image)?;
     let texts = read_files(alloc, files, trace.clients.as_slice())?;
     let input = read_input(alloc, files, trace.input)?;
-    let mut image = opened(alloc, image)?;
+    let mut image = opened(alloc, image, watch)?;
     let Translated { clients, warnings } = translate_all(
         alloc,
         trace.clients.as_slice(),

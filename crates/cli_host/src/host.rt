@@ -1,6 +1,7 @@
 use crate::files::{FileFault, Files};
 use crate::problem::FileProblem;
-use crate::progress::{Progress, Work};
+use crate::progress::Progress;
+use cli_progress::{Watch, Work};
 use std::alloc::Global;
 use std::fs::{self, File, Metadata, OpenOptions, Permissions};
 use std::io::{self, ErrorKind, Read, Take, Write};

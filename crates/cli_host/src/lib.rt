@@ -15,6 +15,7 @@ mod request;
 mod run;
 mod tracing;
 
+pub use cli_progress::{Pace, Silent, Watch, Work};
 pub use files::{FileFault, Files};
 pub use host::HostFiles;
 pub use line::{Argument, CommandRow, Takes, number, parser, parser_of, word};
@@ -22,7 +23,7 @@ pub use misread::Misread;
 pub use named::{FileFailure, read_file, read_files, read_image, write_file};
 pub use overwriting::{is_same_file, refuse_input, refuse_other_format};
 pub use problem::{FileProblem, Format};
-pub use progress::{Progress, Work};
+pub use progress::Progress;
 pub use reading::read;
 pub use request::{
     Allocator, Asked, Assembly, Compilation, ImageTask, Index, JsonTask, Load, NewImage, Picture,

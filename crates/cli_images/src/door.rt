@@ -1,5 +1,6 @@
 //! The library calls that the commands make. They have no contracts here: the commands are tested, not proved.
 
+use cli_host::{Watch, Work};
 use lezgauri::{
     AllocatorKind, Client, Code, Fault, Image, ImageRead, IndexKind, MAX_TYPES, Place, Type,
     TypeId, TypeTable, assemble, check, parse,
@@ -8,7 +9,8 @@ use seg_value::freeze;
 use std::alloc::Global;
 
 /// An image after it is opened, or its first fault.
-pub fn opened(alloc: Global, bytes: Vec<u8>) -> Result<Image<Global>, Fault> {
+pub fn opened(alloc: Global, bytes: Vec<u8>, watch: &dyn Watch) -> Result<Image<Global>, Fault> {
+    watch.begin(Work::Checking, bytes.len() as u64);
     match Image::open(alloc, bytes) {
         Ok(image) => Ok(image),
         Err(unopened) => Err(unopened.fault),
@@ -16,7 +18,8 @@ pub fn opened(alloc: Global, bytes: Vec<u8>) -> Result<Image<Global>, Fault> {
 }
 
 /// The types of a sound image, or its first fault.
-pub fn checked(alloc: Global, bytes: &[u8]) -> Result<TypeTable, Fault> {
+pub fn checked(alloc: Global, bytes: &[u8], watch: &dyn Watch) -> Result<TypeTable, Fault> {
+    watch.begin(Work::Checking, bytes.len() as u64);
     check(alloc, bytes)
 }
 

@@ -8,7 +8,7 @@ use crate::loading::{Unloaded, loaded};
 use crate::made::{Made, made_of, new_image};
 use crate::texts::differences;
 use cli_host::{
-    FileFailure, Files, Format, ImageTask, JsonTask, Load, NewImage, Picture, read_image,
+    FileFailure, Files, Format, ImageTask, JsonTask, Load, NewImage, Picture, Watch, read_image,
     refuse_input, refuse_other_format, write_file,
 };
 use cli_program::{Failure, print};
@@ -35,19 +35,25 @@ pub fn compare_files<'a, F: Files, O: Sink>(
     other: &'a str,
     files: &mut F,
     out: &mut O,
+    watch: &dyn Watch,
 ) -> Result<(), Failure<'a>>
     requires works { O.has_failed out.old ≡ false }
 {
     let one = read_image(alloc, files, one)?;
     let other = read_image(alloc, files, other)?;
-    let text = compared(alloc, one, other)?;
+    let text = compared(alloc, one, other, watch)?;
     print(out, text.as_slice())
 }
 
 /// The lines of the differences between two images.
-fn compared(alloc: Global, one: Vec<u8>, other: Vec<u8>) -> Result<Vec<u8>, Fault> {
-    let (one, other) = (opened(alloc, one)?, opened(alloc, other)?);
-    Ok(differences(alloc, &one, &other)?)
+fn compared(
+    alloc: Global,
+    one: Vec<u8>,
+    other: Vec<u8>,
+    watch: &dyn Watch,
+) -> Result<Vec<u8>, Fault> {
+    let (one, other) = (opened(alloc, one, watch)?, opened(alloc, other, watch)?);
+    Ok(differences(alloc, &one, &other, watch)?)
 }
 
 /// `load TEXT FILE [--force]`: makes the image that a dump describes. Refuses to write over the text, and without `--force` over
@@ -56,13 +62,14 @@ pub fn load_file<'a, F: Files>(
     alloc: Global,
     load: &Load<'a>,
     files: &mut F,
+    watch: &dyn Watch,
 ) -> Result<(), Failure<'a>> {
     let text = read_image(alloc, files, load.text)?;
     refuse_input(files, load.image, load.text)?;
     if !load.forced {
         refuse_other_format(alloc, files, load.image, Format::Image)?;
     }
-    match loaded(alloc, text.as_slice()) {
+    match loaded(alloc, text.as_slice(), watch) {
         Ok(image) => Ok(write_file(files, load.image, image.as_slice())?),
         Err(Unloaded::Full) => Err(Failure::Full(load.image)),
         Err(Unloaded::Fault(fault)) => Err(Failure::from(fault)),
@@ -77,6 +84,7 @@ pub fn image_file<'a, F: Files, O: Sink>(
     task: ImageTask<'a>,
     files: &mut F,
     out: &mut O,
+    watch: &dyn Watch,
 ) -> Result<(), Failure<'a>>
     requires works { O.has_failed out.old ≡ false }
 {
@@ -85,7 +93,7 @@ pub fn image_file<'a, F: Files, O: Sink>(
     if let Some(picture) = picture {
         check_picture(alloc, file, picture, files)?;
     }
-    let made = match made_of(alloc, image, task) {
+    let made = match made_of(alloc, image, task, watch) {
         Ok(made) => made,
         Err(failure) => return fail(alloc, failure, task, out),
     };

@@ -1,7 +1,7 @@
 //! What commands print as JSON.
 
 use crate::listing::{all_statistics, bytes_of, found};
-use cli_host::JsonTask;
+use cli_host::{JsonTask, Watch};
 use cli_program::Failure;
 use cli_show::{heap_json, list_json, objects_json, soundness_json, statistics_json, types_json};
 use lezgauri::{Fault, Image, ImageRead};
@@ -13,17 +13,18 @@ pub(crate) fn json_of<'a>(
     image: &Image<Global>,
     version: u32,
     task: JsonTask<'a>,
+    watch: &dyn Watch,
 ) -> Result<Vec<u8>, Failure<'a>> {
     match task {
         JsonTask::Check => Ok(soundness_json(alloc, None)?),
         JsonTask::Stat => {
-            let statistics = all_statistics(alloc, image, version)?;
+            let statistics = all_statistics(alloc, image, version, watch)?;
             Ok(statistics_json(alloc, statistics.as_slice())?)
         }
-        JsonTask::List => Ok(list(alloc, image)?),
+        JsonTask::List => Ok(list(alloc, image, watch)?),
         JsonTask::Types => Ok(types_json(alloc, image.types())?),
-        JsonTask::Show { name } => found(shown(alloc, image, name)?, name),
-        JsonTask::Map => Ok(map(alloc, image)?),
+        JsonTask::Show { name } => found(shown(alloc, image, name, watch)?, name),
+        JsonTask::Map => Ok(map(alloc, image, watch)?),
     }
 }
 
@@ -45,17 +46,17 @@ pub(crate) fn unsound(alloc: Global, fault: Fault) -> Result<Option<Vec<u8>>, Al
     Ok(Some(soundness_json(alloc, Some((fault.code(), at)))?))
 }
 
-fn list(alloc: Global, image: &Image<Global>) -> Result<Vec<u8>, AllocError> {
+fn list(alloc: Global, image: &Image<Global>, watch: &dyn Watch) -> Result<Vec<u8>, AllocError> {
     match image {
-        Image::Seq(segment) => list_json(alloc, segment),
-        Image::Best(segment) => list_json(alloc, segment),
+        Image::Seq(segment) => list_json(alloc, segment, watch),
+        Image::Best(segment) => list_json(alloc, segment, watch),
     }
 }
 
-fn map(alloc: Global, image: &Image<Global>) -> Result<Vec<u8>, AllocError> {
+fn map(alloc: Global, image: &Image<Global>, watch: &dyn Watch) -> Result<Vec<u8>, AllocError> {
     match image {
-        Image::Seq(segment) => heap_json(alloc, segment),
-        Image::Best(segment) => heap_json(alloc, segment),
+        Image::Seq(segment) => heap_json(alloc, segment, watch),
+        Image::Best(segment) => heap_json(alloc, segment, watch),
     }
 }
 
@@ -64,10 +65,11 @@ fn shown(
     alloc: Global,
     image: &Image<Global>,
     name: Option<&str>,
+    watch: &dyn Watch,
 ) -> Result<Option<Vec<u8>>, AllocError> {
     let name = bytes_of(name);
     match image {
-        Image::Seq(segment) => objects_json(alloc, segment, name),
-        Image::Best(segment) => objects_json(alloc, segment, name),
+        Image::Seq(segment) => objects_json(alloc, segment, name, watch),
+        Image::Best(segment) => objects_json(alloc, segment, name, watch),
     }
 }

@@ -1,6 +1,7 @@
 //! Listings of a segment's contents, as text.
 
 use crate::door::unique_value;
+use cli_host::{Pace, Watch, Work};
 use cli_program::Failure;
 use cli_show::{
     Detail, Extent, Statistic, details, heap_lines, objects_text, picture, statistic_lines,
@@ -26,11 +27,12 @@ pub(crate) fn all_statistics(
     alloc: Global,
     image: &Image<Global>,
     version: u32,
+    watch: &dyn Watch,
 ) -> Result<Vec<Statistic>, AllocError> {
     let mut all = Vec::from_slice(alloc, &statistics(image))?;
     let further = match image {
-        Image::Seq(segment) => details(alloc, segment, version)?,
-        Image::Best(segment) => details(alloc, segment, version)?,
+        Image::Seq(segment) => details(alloc, segment, version, watch)?,
+        Image::Best(segment) => details(alloc, segment, version, watch)?,
     };
     all.extend_from_slice(further.as_slice())?;
     Ok(all)
@@ -42,9 +44,13 @@ pub(crate) fn numbers(
     image: &Image<Global>,
     version: u32,
     all: bool,
+    watch: &dyn Watch,
 ) -> Result<Vec<u8>, AllocError> {
     if all {
-        statistic_lines(alloc, all_statistics(alloc, image, version)?.as_slice())
+        statistic_lines(
+            alloc,
+            all_statistics(alloc, image, version, watch)?.as_slice(),
+        )
     } else {
         statistic_lines(alloc, &statistics(image))
     }
@@ -56,9 +62,10 @@ pub(crate) fn objects(
     alloc: Global,
     image: &Image<Global>,
     typed: bool,
+    watch: &dyn Watch,
 ) -> Result<Vec<u8>, AllocError> {
     let mut lines = Vec::new(alloc);
-    add_named(&mut lines, alloc, image, typed)?;
+    add_named(&mut lines, alloc, image, typed, watch)?;
     for t in 0..MAX_TYPES as TypeId {
         if unique_value(image, t).is_some() {
             lines.extend_from_slice(format!(in alloc; "unique {t}")?.as_bytes())?;
@@ -73,8 +80,13 @@ fn add_named(
     alloc: Global,
     image: &Image<Global>,
     typed: bool,
+    watch: &dyn Watch,
 ) -> Result<(), AllocError> {
+    let mut pace = Pace::new();
+    let mut number: u64 = 0;
     for named in image.names() {
+        pace.show(watch, Work::Listing, number, u64::from(image.num_named()));
+        number = number.saturating_add(1);
         let Named {
             name,
             type_id,
@@ -115,11 +127,12 @@ pub(crate) fn shown(
     image: &Image<Global>,
     name: Option<&str>,
     detail: Detail,
+    watch: &dyn Watch,
 ) -> Result<Option<Vec<u8>>, AllocError> {
     let name = bytes_of(name);
     match image {
-        Image::Seq(segment) => objects_text(alloc, segment, name, detail),
-        Image::Best(segment) => objects_text(alloc, segment, name, detail),
+        Image::Seq(segment) => objects_text(alloc, segment, name, detail, watch),
+        Image::Best(segment) => objects_text(alloc, segment, name, detail, watch),
     }
 }
 
@@ -143,18 +156,26 @@ pub(crate) fn found<'a>(
 }
 
 /// The heap's blocks, a line each.
-pub(crate) fn blocks(alloc: Global, image: &Image<Global>) -> Result<Vec<u8>, AllocError> {
+pub(crate) fn blocks(
+    alloc: Global,
+    image: &Image<Global>,
+    watch: &dyn Watch,
+) -> Result<Vec<u8>, AllocError> {
     match image {
-        Image::Seq(segment) => heap_lines(alloc, segment),
-        Image::Best(segment) => heap_lines(alloc, segment),
+        Image::Seq(segment) => heap_lines(alloc, segment, watch),
+        Image::Best(segment) => heap_lines(alloc, segment, watch),
     }
 }
 
 /// The heap as an SVG picture.
-pub(crate) fn pictured(alloc: Global, image: &Image<Global>) -> Result<Vec<u8>, AllocError> {
+pub(crate) fn pictured(
+    alloc: Global,
+    image: &Image<Global>,
+    watch: &dyn Watch,
+) -> Result<Vec<u8>, AllocError> {
     match image {
-        Image::Seq(segment) => picture(alloc, segment),
-        Image::Best(segment) => picture(alloc, segment),
+        Image::Seq(segment) => picture(alloc, segment, watch),
+        Image::Best(segment) => picture(alloc, segment, watch),
     }
 }
 

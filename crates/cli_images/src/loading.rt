@@ -4,6 +4,7 @@ use crate::building::{Building, Wrong};
 use crate::door::{assembled, checked, created, declared, extended, grown, shrunk};
 use crate::lines::{Lines, Words};
 use crate::paths::number;
+use cli_host::{Pace, Watch, Work};
 use lezgauri::{AllocatorKind, Fault, Image, IndexKind, MAX_LEN, TypeTable};
 use std::alloc::Global;
 
@@ -53,12 +54,12 @@ struct Shape {
 }
 
 /// The image that a text describes. If the content needs more room than the text says, the segment is larger.
-pub(crate) fn loaded(alloc: Global, text: &[u8]) -> Result<Vec<u8>, Unloaded> {
+pub(crate) fn loaded(alloc: Global, text: &[u8], watch: &dyn Watch) -> Result<Vec<u8>, Unloaded> {
     let dump = dump_of(alloc, text)?;
     let mut size = dump.shape.size;
     for _ in 0..=DOUBLINGS {
-        match built(alloc, &dump, size) {
-            Ok(image) => return saved(alloc, image, dump.shape.size),
+        match built(alloc, &dump, size, watch) {
+            Ok(image) => return saved(alloc, image, dump.shape.size, watch),
             Err(Unloaded::Full) if size < MAX_LEN => size = size.saturating_mul(2).min(MAX_LEN),
             Err(unloaded) => return Err(unloaded),
         }
@@ -67,11 +68,16 @@ pub(crate) fn loaded(alloc: Global, text: &[u8]) -> Result<Vec<u8>, Unloaded> {
 }
 
 /// The bytes of an image, of this size if its objects leave the end free.
-fn saved(alloc: Global, image: Image<Global>, size: u32) -> Result<Vec<u8>, Unloaded> {
+fn saved(
+    alloc: Global,
+    image: Image<Global>,
+    size: u32,
+    watch: &dyn Watch,
+) -> Result<Vec<u8>, Unloaded> {
     let mut image = image;
     fit(&mut image, size)?;
     let bytes = image.into_bytes();
-    checked(alloc, bytes.as_slice())?;
+    checked(alloc, bytes.as_slice(), watch)?;
     Ok(bytes)
 }
 
@@ -85,13 +91,22 @@ fn fit(image: &mut Image<Global>, size: u32) -> Result<(), Fault> {
 }
 
 /// Makes the objects of a text in a segment of this size.
-fn built(alloc: Global, dump: &Dump, size: u32) -> Result<Image<Global>, Unloaded> {
+fn built(
+    alloc: Global,
+    dump: &Dump,
+    size: u32,
+    watch: &dyn Watch,
+) -> Result<Image<Global>, Unloaded> {
     let mut building = Building::new(alloc, empty(alloc, dump, size)?);
     let mut lines = dump.objects;
-    for _ in 0..lines.rest.len() {
+    let mut pace = Pace::new();
+    let whole = lines.rest.len();
+    for _ in 0..whole {
         let Some(line) = lines.next_meant() else {
             break;
         };
+        let done = whole.saturating_sub(lines.rest.len());
+        pace.show(watch, Work::Loading, done as u64, whole as u64);
         if let Err(wrong) = building.take(alloc, line) {
             return Err(Unloaded::of(wrong, lines.number));
         }

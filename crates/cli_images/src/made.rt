@@ -5,7 +5,7 @@ use crate::editing::{Unset, delete, set};
 use crate::json_texts::json_of;
 use crate::listing::{blocks, detail, found, numbers, objects, pictured, shown, size};
 use crate::texts::{dumped, values_at};
-use cli_host::{Allocator, ImageTask, Index, NewImage};
+use cli_host::{Allocator, ImageTask, Index, NewImage, Watch};
 use cli_program::Failure;
 use cli_show::type_lines;
 use lezgauri::{AllocatorKind, Fault, Image, ImageRead, IndexKind};
@@ -36,10 +36,11 @@ pub(crate) fn made_of<'a>(
     alloc: Global,
     bytes: Vec<u8>,
     task: ImageTask<'a>,
+    watch: &dyn Watch,
 ) -> Result<Made, Failure<'a>> {
     let version = version_of(bytes.as_slice());
-    let mut image = opened(alloc, bytes)?;
-    let text = text_of(alloc, &mut image, version, task)?;
+    let mut image = opened(alloc, bytes, watch)?;
+    let text = text_of(alloc, &mut image, version, task, watch)?;
     let image = if is_change(task) {
         Some(image.into_bytes())
     } else {
@@ -62,25 +63,31 @@ fn text_of<'a>(
     image: &mut Image<Global>,
     version: u32,
     task: ImageTask<'a>,
+    watch: &dyn Watch,
 ) -> Result<Vec<u8>, Failure<'a>> {
     match task {
         ImageTask::Check => Ok(Vec::from_slice(alloc, b"ok\n")?),
-        ImageTask::Json(task) => json_of(alloc, image, version, task),
-        ImageTask::Stat { all } => Ok(numbers(alloc, image, version, all)?),
-        ImageTask::List { typed } => Ok(objects(alloc, image, typed)?),
+        ImageTask::Json(task) => json_of(alloc, image, version, task, watch),
+        ImageTask::Stat { all } => Ok(numbers(alloc, image, version, all, watch)?),
+        ImageTask::List { typed } => Ok(objects(alloc, image, typed, watch)?),
         ImageTask::Types => Ok(type_lines(alloc, image.types())?),
         ImageTask::Show { name, whole, typed } => {
-            found(shown(alloc, image, name, detail(whole, typed))?, name)
+            found(
+                shown(alloc, image, name, detail(whole, typed), watch)?,
+                name,
+            )
         }
-        ImageTask::Get { path } => found(values_at(alloc, image, path.as_bytes())?, Some(path)),
+        ImageTask::Get { path } => {
+            found(values_at(alloc, image, path.as_bytes(), watch)?, Some(path))
+        }
         ImageTask::Set { path, value } => {
             let done = set(alloc, image, path.as_bytes(), value.as_bytes());
             changed(alloc, done, path)
         }
         ImageTask::Delete { path } => changed(alloc, delete(image, path.as_bytes()), path),
-        ImageTask::Dump => Ok(dumped(alloc, image)?),
-        ImageTask::Map => Ok(blocks(alloc, image)?),
-        ImageTask::Picture(_) => Ok(pictured(alloc, image)?),
+        ImageTask::Dump => Ok(dumped(alloc, image, watch)?),
+        ImageTask::Map => Ok(blocks(alloc, image, watch)?),
+        ImageTask::Picture(_) => Ok(pictured(alloc, image, watch)?),
         ImageTask::Grow { extra } => Ok(size(alloc, grown(image, extra)?)?),
         ImageTask::Shrink => Ok(size(alloc, shrunk(image))?),
         // opening an image upgrades it to version 2

@@ -1,6 +1,7 @@
 //! Values, whole contents and differences, as text.
 
 use crate::paths::{Start, start_of, value_at, value_of};
+use cli_host::Watch;
 use cli_show::{difference, dump, value_lines};
 use lezgauri::{Image, Place};
 use std::alloc::{AllocError, Global};
@@ -10,41 +11,57 @@ pub(crate) fn values_at(
     alloc: Global,
     image: &Image<Global>,
     path: &[u8],
+    watch: &dyn Watch,
 ) -> Result<Option<Vec<u8>>, AllocError> {
     if let Some(start) = start_of(image, path) {
         if start.steps.is_empty() {
-            return Ok(Some(all_values(alloc, image, start)?));
+            let all = all_values(alloc, image, start)?;
+            return Ok(Some(values(alloc, image, all.as_slice(), watch)?));
         }
     }
     match value_at(image, path) {
-        Some(place) => Ok(Some(value(alloc, image, place)?)),
+        Some(place) => Ok(Some(values(alloc, image, &[place], watch)?)),
         None => Ok(None),
     }
 }
 
-/// All values of an object, one after the other.
-fn all_values(alloc: Global, image: &Image<Global>, start: Start) -> Result<Vec<u8>, AllocError> {
-    let mut lines = Vec::new(alloc);
+/// The places of all values of an object.
+fn all_values(
+    alloc: Global,
+    image: &Image<Global>,
+    start: Start,
+) -> Result<Vec<Place>, AllocError> {
+    let mut places = Vec::new(alloc);
     for index in 0..start.count {
         if let Some(place) = value_of(image, start, index) {
-            lines.extend_from_slice(value(alloc, image, place)?.as_slice())?;
+            places.push(place)?;
         }
     }
-    Ok(lines)
+    Ok(places)
 }
 
-fn value(alloc: Global, image: &Image<Global>, place: Place) -> Result<Vec<u8>, AllocError> {
+/// The values at these places, one after the other.
+fn values(
+    alloc: Global,
+    image: &Image<Global>,
+    places: &[Place],
+    watch: &dyn Watch,
+) -> Result<Vec<u8>, AllocError> {
     match image {
-        Image::Seq(segment) => value_lines(alloc, segment, place),
-        Image::Best(segment) => value_lines(alloc, segment, place),
+        Image::Seq(segment) => value_lines(alloc, segment, places, watch),
+        Image::Best(segment) => value_lines(alloc, segment, places, watch),
     }
 }
 
 /// The content as a text that can be loaded.
-pub(crate) fn dumped(alloc: Global, image: &Image<Global>) -> Result<Vec<u8>, AllocError> {
+pub(crate) fn dumped(
+    alloc: Global,
+    image: &Image<Global>,
+    watch: &dyn Watch,
+) -> Result<Vec<u8>, AllocError> {
     match image {
-        Image::Seq(segment) => dump(alloc, segment),
-        Image::Best(segment) => dump(alloc, segment),
+        Image::Seq(segment) => dump(alloc, segment, watch),
+        Image::Best(segment) => dump(alloc, segment, watch),
     }
 }
 
@@ -53,11 +70,12 @@ pub(crate) fn differences(
     alloc: Global,
     one: &Image<Global>,
     other: &Image<Global>,
+    watch: &dyn Watch,
 ) -> Result<Vec<u8>, AllocError> {
     match (one, other) {
-        (Image::Seq(one), Image::Seq(other)) => difference(alloc, one, other),
-        (Image::Seq(one), Image::Best(other)) => difference(alloc, one, other),
-        (Image::Best(one), Image::Seq(other)) => difference(alloc, one, other),
-        (Image::Best(one), Image::Best(other)) => difference(alloc, one, other),
+        (Image::Seq(one), Image::Seq(other)) => difference(alloc, one, other, watch),
+        (Image::Seq(one), Image::Best(other)) => difference(alloc, one, other, watch),
+        (Image::Best(one), Image::Seq(other)) => difference(alloc, one, other, watch),
+        (Image::Best(one), Image::Best(other)) => difference(alloc, one, other, watch),
     }
 }

@@ -6,7 +6,7 @@ ghost use Rattle.cli_program.specs.Runs.{read_of, room_of, job_of_run, IsRefusal
 use crate::failure::Failure;
 use crate::inputs::{Inputs, read_inputs, slices};
 use crate::saving::save;
-use cli_host::{Files, Run};
+use cli_host::{Files, Run, Watch, Work};
 use client_vm::{Outcome, Refused, Schedule, Sink, run_image};
 use std::alloc::Global;
 
@@ -17,6 +17,7 @@ pub fn run_files<'a, F: Files, O: Sink>(
     run: &Run<'a>,
     files: &mut F,
     out: &mut O,
+    watch: &dyn Watch,
 ) -> Result<(), Failure<'a>>
     requires works { O.has_failed out.old ≡ false }
     ensures saved { OnOk result (HasSaved run.now (F.was_read files.old) (F.was_read files.new)
@@ -25,7 +26,7 @@ pub fn run_files<'a, F: Files, O: Sink>(
         (F.was_written files.old) (F.was_written files.new) (O.taken out.old) (O.taken out.new)) }
 {
     let inputs = read_inputs(alloc, files, run)?;
-    run_inputs(alloc, run, inputs, files, out)
+    run_inputs(alloc, run, inputs, files, out, watch)
 }
 
 /// Runs clients whose bytes are given, and writes the saved image, also if their output failed, unless the file is kept then.
@@ -35,6 +36,7 @@ pub fn run_inputs<'a, F: Files, O: Sink>(
     inputs: Inputs,
     files: &mut F,
     out: &mut O,
+    watch: &dyn Watch,
 ) -> Result<(), Failure<'a>>
     requires works { O.has_failed out.old ≡ false }
     ensures saved { OnOk result (HasSavedOf run.now (read_of inputs) (F.was_written files.old)
@@ -44,6 +46,7 @@ pub fn run_inputs<'a, F: Files, O: Sink>(
         (O.taken out.new)) }
     ensures nothing_read { F.was_read files.new ≡ F.was_read files.old }
 {
+    watch.begin(Work::Checking, inputs.image.len() as u64);
     let outcome = outcome_of(alloc, run, inputs, out)?;
     save(
         files,

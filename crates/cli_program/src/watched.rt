@@ -2,7 +2,7 @@
 ghost use Rattle.std.specs.Prelude.{◌≡◌};
 ghost use Rattle.cli_program.specs.Watching.{sink_of};
 
-use cli_host::{Progress, Work};
+use cli_host::{Progress, Watch, Work};
 use client_vm::Sink;
 use std::rt::Clock;
 

@@ -1,8 +1,11 @@
 //! The differences between two segments, by names and values.
 
 use crate::contents::{Entry, Object, Objects, entries};
+use crate::extent::Extent;
 use crate::lines::IndentedText;
 use crate::parts::Selector;
+use crate::walk::ValueWalk;
+use cli_progress::{Pace, Watch, Work};
 use seg_block::Fit;
 use seg_manager::Segment;
 use std::alloc::{AllocError, Global};
@@ -17,8 +20,12 @@ pub fn difference<F: Fit, G: Fit>(
     alloc: Global,
     one: &Segment<F, Global>,
     other: &Segment<G, Global>,
+    watch: &dyn Watch,
 ) -> Result<Vec<u8>, AllocError> {
-    let (mine, theirs) = (Objects::of(alloc, one)?, Objects::of(alloc, other)?);
+    let mine = Objects::of(alloc, one, watch)?;
+    let theirs = Objects::of(alloc, other, watch)?;
+    let values = mine.values.saturating_add(theirs.values);
+    let mut walk = ValueWalk::new(alloc, Extent::All, Work::Collecting, values);
     let mut lines = IndentedText::new(alloc);
     let (mut my_next, mut their_next) = (0, 0);
     for _ in 0..mine.all.len().saturating_add(theirs.all.len()) {
@@ -26,11 +33,11 @@ pub fn difference<F: Fit, G: Fit>(
             mine.all.get(my_next).copied(),
             theirs.all.get(their_next).copied(),
         );
-        let my_entries = entries(alloc, one.heap(), &mine, my_object)?;
-        let their_entries = entries(alloc, other.heap(), &theirs, their_object)?;
+        let my_entries = entries(&mut walk, one.heap(), &mine, my_object, watch)?;
+        let their_entries = entries(&mut walk, other.heap(), &theirs, their_object, watch)?;
         let mut my_cursor = Cursor::new(alloc, b"- ", my_object, my_entries.as_slice());
         let mut their_cursor = Cursor::new(alloc, b"+ ", their_object, their_entries.as_slice());
-        compare(&mut lines, &mut my_cursor, &mut their_cursor)?;
+        compare(&mut lines, &mut my_cursor, &mut their_cursor, watch)?;
         my_next = after(my_next, my_object);
         their_next = after(their_next, their_object);
     }
@@ -125,9 +132,13 @@ fn compare(
     lines: &mut IndentedText,
     one: &mut Cursor,
     other: &mut Cursor,
+    watch: &dyn Watch,
 ) -> Result<(), AllocError> {
     let most = one.entries.len().saturating_add(other.entries.len());
+    let mut pace = Pace::new();
     for _ in 0..most {
+        let done = one.next.saturating_add(other.next) as u64;
+        pace.show(watch, Work::Comparing, done, most as u64);
         match (one.entry(), other.entry()) {
             (Some(mine), Some(theirs)) => compare_entries(lines, one, mine, other, theirs)?,
             (Some(mine), None) => one.take(lines, mine)?,

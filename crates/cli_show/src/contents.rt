@@ -4,8 +4,9 @@ use crate::extent::Extent;
 use crate::lines::IndentedText;
 use crate::objects::{own_word, text_of};
 use crate::parts::Selector;
-use crate::roots::{Root, RootName, frozen_number, roots};
+use crate::roots::{Root, RootName, frozen_number, roots, value_count};
 use crate::walk::{Met, ValueWalk, most_turns};
+use cli_progress::Watch;
 use seg_block::Fit;
 use seg_manager::{Heap, Place, Segment, Type, frozen};
 use std::alloc::{AllocError, Global};
@@ -23,6 +24,8 @@ pub(crate) struct Object<'h> {
 #[derive(Drop)]
 pub(crate) struct Objects<'h> {
     pub(crate) all: Vec<Object<'h>>,
+    /// How many values they have.
+    pub(crate) values: u64,
     /// The numbers of the frozen ones.
     numbers: Vec<u32>,
 }
@@ -31,10 +34,12 @@ impl<'h> Objects<'h> {
     pub(crate) fn of<F: Fit>(
         alloc: Global,
         segment: &'h Segment<F, Global>,
+        watch: &dyn Watch,
     ) -> Result<Objects<'h>, AllocError> {
-        let roots = roots(alloc, segment)?;
+        let roots = roots(alloc, segment, watch)?;
         let mut objects = Objects {
             all: Vec::new(alloc),
+            values: value_count(roots.as_slice()),
             numbers: Vec::new(alloc),
         };
         for root in &roots {
@@ -199,38 +204,39 @@ fn step_key(step: Selector) -> (u8, i64) {
 
 /// All values of an object, each before the values inside it. None if there is no object.
 pub(crate) fn entries<'h, F: Fit>(
-    alloc: Global,
+    walk: &mut ValueWalk,
     heap: &'h Heap<F, Global>,
     objects: &Objects,
     object: Option<Object>,
+    watch: &dyn Watch,
 ) -> Result<Vec<Entry<'h>>, AllocError> {
-    let mut entries = Vec::new(alloc);
+    let mut entries = Vec::new(walk.alloc());
     if let Some(object) = object {
         let size = heap.types().size(object.root.first.type_id);
         for index in 0..object.root.count {
             let value = object.root.value(index, size);
-            add_value(&mut entries, heap, objects, value, index)?;
+            entries.push(Entry {
+                level: 0,
+                step: Selector::Index(u32::from(index)),
+                content: content_of(objects, heap, value),
+            })?;
+            walk.begin(heap, value, watch)?;
+            add_parts(&mut entries, walk, heap, objects, watch)?;
         }
     }
     Ok(entries)
 }
 
-/// Adds a value of an object, with this index, and all values inside it.
-fn add_value<'h, F: Fit>(
+/// Adds all values inside the value at which a walk begins.
+fn add_parts<'h, F: Fit>(
     entries: &mut Vec<Entry<'h>>,
+    walk: &mut ValueWalk,
     heap: &'h Heap<F, Global>,
     objects: &Objects,
-    value: Place,
-    index: u16,
+    watch: &dyn Watch,
 ) -> Result<(), AllocError> {
-    entries.push(Entry {
-        level: 0,
-        step: Selector::Index(u32::from(index)),
-        content: content_of(objects, heap, value),
-    })?;
-    let mut walk = ValueWalk::new(*entries.allocator(), heap, value, Extent::All)?;
     for _ in 0..most_turns(heap.window().len()) {
-        match walk.next(heap)? {
+        match walk.next(heap, watch)? {
             Some(Met::Part { level, part }) => entries.push(Entry {
                 level,
                 step: part.step,

@@ -21,10 +21,6 @@ impl Document {
         document
     }
 
-    pub(crate) fn alloc(&self) -> Global {
-        self.alloc
-    }
-
     pub(crate) fn begin_object(&mut self) {
         self.is_refused |= self.writer.begin_object().is_err();
     }

@@ -8,6 +8,7 @@ use crate::objects::value_words;
 use crate::owners::{OwnedBlock, owned_blocks};
 use crate::purpose::{COUNT, PURPOSES, Purpose};
 use crate::roots::{Root, roots};
+use cli_progress::Watch;
 use seg_block::{Fit, HEAP_START, Kind, Tag, UNIT};
 use seg_manager::{Heap, Place, Segment};
 use std::alloc::{AllocError, Global};
@@ -41,15 +42,19 @@ const FROZEN_WORDS: u32 = 8;
 /// A picture of the heap in rows, from its lowest unit on, coloured by the purpose of blocks, with a legend. Of a heap with at most
 /// 8192 units each block is a shape, whose title describes it. In a larger heap a cell is several units and shows the block that
 /// has most of them, so that the picture has at most 8192 shapes.
-pub fn picture<F: Fit>(alloc: Global, segment: &Segment<F, Global>) -> Result<Vec<u8>, AllocError> {
+pub fn picture<F: Fit>(
+    alloc: Global,
+    segment: &Segment<F, Global>,
+    watch: &dyn Watch,
+) -> Result<Vec<u8>, AllocError> {
     let units = segment.window().len().saturating_sub(HEAP_START) / UNIT;
     let scale = units.div_ceil(COLUMNS * ROWS).max(1);
     let mut lines = IndentedText::new(alloc);
     add_head(&mut lines, units.div_ceil(scale).div_ceil(COLUMNS));
     if scale == 1 {
-        add_blocks(&mut lines, segment)?;
+        add_blocks(&mut lines, segment, watch)?;
     } else {
-        add_cells(&mut lines, segment.heap(), units, scale)?;
+        add_cells(&mut lines, segment.heap(), units, scale, watch)?;
     }
     add_rows(&mut lines, units, scale);
     lines.add(b"</svg>\n");
@@ -136,10 +141,11 @@ fn add_rows(lines: &mut IndentedText, units: u32, scale: u32) {
 fn add_blocks<F: Fit>(
     lines: &mut IndentedText,
     segment: &Segment<F, Global>,
+    watch: &dyn Watch,
 ) -> Result<(), AllocError> {
     let alloc = lines.alloc();
-    let roots = roots(alloc, segment)?;
-    let owned = owned_blocks(alloc, segment.heap(), roots.as_slice())?;
+    let roots = roots(alloc, segment, watch)?;
+    let owned = owned_blocks(alloc, segment.heap(), roots.as_slice(), watch)?;
     add_block_legend(lines, owned.as_slice());
     for it in &owned {
         add_block(lines, segment.heap(), it, root_of(it, roots.as_slice()))?;
@@ -247,9 +253,10 @@ fn add_cells<F: Fit>(
     heap: &Heap<F, Global>,
     units: u32,
     scale: u32,
+    watch: &dyn Watch,
 ) -> Result<(), AllocError> {
     let alloc = lines.alloc();
-    let owned = owned_blocks(alloc, heap, &[])?;
+    let owned = owned_blocks(alloc, heap, &[], watch)?;
     let count = units.div_ceil(scale.max(1));
     let cells = cells(alloc, owned.as_slice(), count, scale.max(1))?;
     add_cell_legend(lines, cells.as_slice(), scale);

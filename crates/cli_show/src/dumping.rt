@@ -4,28 +4,35 @@ use crate::extent::Extent;
 use crate::lines::IndentedText;
 use crate::objects::text_of;
 use crate::parts::Selector;
-use crate::roots::{Root, RootName, frozen_number, roots};
+use crate::roots::{Root, RootName, frozen_number, roots, value_count};
 use crate::types::{add_types, kind_word};
 use crate::walk::{Met, ValueWalk, most_turns};
+use cli_progress::{Watch, Work};
 use seg_block::Fit;
 use seg_manager::{Heap, Place, Segment, Type, Window, frozen, header};
 use std::alloc::{AllocError, Global};
 
 /// The segment's size, allocator and index; its types; the frozen objects in ascending order of their numbers, so that each comes
 /// after those to which it points; the named ones in order of their names, and the unique ones in order of type.
-pub fn dump<F: Fit>(alloc: Global, segment: &Segment<F, Global>) -> Result<Vec<u8>, AllocError> {
-    let roots = roots(alloc, segment)?;
+pub fn dump<F: Fit>(
+    alloc: Global,
+    segment: &Segment<F, Global>,
+    watch: &dyn Watch,
+) -> Result<Vec<u8>, AllocError> {
+    let roots = roots(alloc, segment, watch)?;
+    let values = value_count(roots.as_slice());
+    let mut walk = ValueWalk::new(alloc, Extent::All, Work::Printing, values);
     let mut lines = IndentedText::new(alloc);
     add_segment(&mut lines, segment.window());
     add_types(&mut lines, segment.types());
     for index in (0..roots.len()).rev() {
         if roots[index].is_frozen() {
-            add_object(&mut lines, segment.heap(), &roots[index])?;
+            add_object(&mut lines, &mut walk, segment.heap(), &roots[index], watch)?;
         }
     }
     for root in &roots {
         if !root.is_frozen() {
-            add_object(&mut lines, segment.heap(), root)?;
+            add_object(&mut lines, &mut walk, segment.heap(), root, watch)?;
         }
     }
     lines.into_bytes()
@@ -57,13 +64,15 @@ pub(crate) fn index_word(w: &Window<Global>) -> &'static str {
 /// Adds an object, with its values and all values inside them.
 fn add_object<F: Fit>(
     lines: &mut IndentedText,
+    walk: &mut ValueWalk,
     heap: &Heap<F, Global>,
     root: &Root,
+    watch: &dyn Watch,
 ) -> Result<(), AllocError> {
     add_root(lines, root);
     let size = heap.types().size(root.first.type_id);
     for index in 0..root.count {
-        add_value(lines, heap, root.value(index, size))?;
+        add_value(lines, walk, heap, root.value(index, size), watch)?;
     }
     Ok(())
 }
@@ -88,14 +97,16 @@ fn add_root(lines: &mut IndentedText, root: &Root) {
 /// Adds a value and all values inside it. Parts come between the line of their value and a line `end`.
 fn add_value<F: Fit>(
     lines: &mut IndentedText,
+    walk: &mut ValueWalk,
     heap: &Heap<F, Global>,
     value: Place,
+    watch: &dyn Watch,
 ) -> Result<(), AllocError> {
     lines.indent(1);
     let mut open = Vec::from_slice(lines.alloc(), &[add_content(lines, heap, value)])?;
-    let mut walk = ValueWalk::new(lines.alloc(), heap, value, Extent::All)?;
+    walk.begin(heap, value, watch)?;
     for _ in 0..most_turns(heap.window().len()) {
-        let Some(met) = walk.next(heap)? else {
+        let Some(met) = walk.next(heap, watch)? else {
             break;
         };
         match met {

@@ -6,6 +6,7 @@ use crate::listing::root_of;
 use crate::owners::{OwnedBlock, owned_blocks};
 use crate::purpose::Purpose;
 use crate::roots::{Root, roots};
+use cli_progress::{Pace, Watch, Work};
 use seg_block::{Block, Fit};
 use seg_manager::Segment;
 use std::alloc::{AllocError, Global};
@@ -15,12 +16,15 @@ use std::alloc::{AllocError, Global};
 pub fn heap_json<F: Fit>(
     alloc: Global,
     segment: &Segment<F, Global>,
+    watch: &dyn Watch,
 ) -> Result<Vec<u8>, AllocError> {
-    let roots = roots(alloc, segment)?;
-    let owned = owned_blocks(alloc, segment.heap(), roots.as_slice())?;
+    let roots = roots(alloc, segment, watch)?;
+    let owned = owned_blocks(alloc, segment.heap(), roots.as_slice(), watch)?;
     let mut json = Document::new(alloc);
+    let mut pace = Pace::new();
     json.begin_list("blocks");
-    for it in &owned {
+    for (number, it) in owned.iter().enumerate() {
+        pace.show(watch, Work::Printing, number as u64, owned.len() as u64);
         add_block(&mut json, it, roots.as_slice());
     }
     json.end_array();

@@ -5,9 +5,10 @@ use crate::extent::Extent;
 use crate::objects::text_of;
 use crate::parts::Selector;
 use crate::reached::Reached;
-use crate::roots::{Root, RootName, frozen_number, roots};
+use crate::roots::{Root, RootName, frozen_number, roots, value_count};
 use crate::selection::Selection;
 use crate::walk::{Met, ValueWalk, most_turns};
+use cli_progress::{Pace, Watch, Work};
 use seg_block::Fit;
 use seg_manager::{Heap, Place, Segment, Type, frozen};
 use std::alloc::{AllocError, Global};
@@ -16,10 +17,14 @@ use std::alloc::{AllocError, Global};
 pub fn list_json<F: Fit>(
     alloc: Global,
     segment: &Segment<F, Global>,
+    watch: &dyn Watch,
 ) -> Result<Vec<u8>, AllocError> {
+    let roots = roots(alloc, segment, watch)?;
     let mut json = Document::new(alloc);
+    let mut pace = Pace::new();
     json.begin_list("objects");
-    for root in &roots(alloc, segment)? {
+    for (number, root) in roots.iter().enumerate() {
+        pace.show(watch, Work::Printing, number as u64, roots.len() as u64);
         if !root.is_frozen() {
             json.begin_object();
             add_name(&mut json, root);
@@ -37,15 +42,18 @@ pub fn objects_json<F: Fit>(
     alloc: Global,
     segment: &Segment<F, Global>,
     name: Option<&[u8]>,
+    watch: &dyn Watch,
 ) -> Result<Option<Vec<u8>>, AllocError> {
-    let roots = roots(alloc, segment)?;
+    let roots = roots(alloc, segment, watch)?;
     let selection = Selection::of(name, roots.as_slice());
     let mut objects = Objects::new(alloc, segment.heap(), roots.as_slice())?;
     let mut found = selection.is_all();
     for root in &roots {
         if selection.has(root) || objects.reached.has(root.first.at) {
-            objects.add(root)?;
+            objects.add(root, watch)?;
             found = true;
+        } else {
+            objects.walk.skip(root.count);
         }
     }
     let line = objects.into_line()?;
@@ -58,6 +66,7 @@ struct Objects<'h, F: Fit> {
     heap: &'h Heap<F, Global>,
     json: Document,
     reached: Reached,
+    walk: ValueWalk,
 }
 
 impl<'h, F: Fit> Objects<'h, F> {
@@ -73,17 +82,18 @@ impl<'h, F: Fit> Objects<'h, F> {
             heap,
             json,
             reached,
+            walk: ValueWalk::new(alloc, Extent::All, Work::Printing, value_count(roots)),
         })
     }
 
     /// Adds an object with all its values.
-    fn add(&mut self, root: &Root) -> Result<(), AllocError> {
+    fn add(&mut self, root: &Root, watch: &dyn Watch) -> Result<(), AllocError> {
         self.json.begin_object();
         add_name(&mut self.json, root);
         self.json.begin_list("values");
         let size = self.heap.types().size(root.first.type_id);
         for index in 0..root.count {
-            self.add_value(root.value(index, size))?;
+            self.add_value(root.value(index, size), watch)?;
         }
         self.json.end_array();
         self.json.end_object();
@@ -91,11 +101,11 @@ impl<'h, F: Fit> Objects<'h, F> {
     }
 
     /// Adds a value and all values inside it.
-    fn add_value(&mut self, value: Place) -> Result<(), AllocError> {
+    fn add_value(&mut self, value: Place, watch: &dyn Watch) -> Result<(), AllocError> {
         self.begin(value);
-        let mut walk = ValueWalk::new(self.json.alloc(), self.heap, value, Extent::All)?;
+        self.walk.begin(self.heap, value, watch)?;
         for _ in 0..most_turns(self.heap.window().len()) {
-            let Some(met) = walk.next(self.heap)? else {
+            let Some(met) = self.walk.next(self.heap, watch)? else {
                 break;
             };
             match met {

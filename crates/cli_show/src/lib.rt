@@ -25,6 +25,7 @@ mod statistics;
 mod types;
 mod walk;
 
+pub use cli_progress::{Silent, Watch};
 pub use comparing::difference;
 pub use drawing::picture;
 pub use dumping::dump;

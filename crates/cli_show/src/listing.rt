@@ -4,6 +4,7 @@ use crate::lines::IndentedText;
 use crate::owners::{OwnedBlock, owned_blocks};
 use crate::purpose::Purpose;
 use crate::roots::{Root, RootName, roots};
+use cli_progress::{Pace, Watch, Work};
 use seg_block::{Block, Fit};
 use seg_manager::Segment;
 use std::alloc::{AllocError, Global};
@@ -21,12 +22,15 @@ static FREE: [u8; LONGEST_BAR as usize] = [b'.'; LONGEST_BAR as usize];
 pub fn heap_lines<F: Fit>(
     alloc: Global,
     segment: &Segment<F, Global>,
+    watch: &dyn Watch,
 ) -> Result<Vec<u8>, AllocError> {
-    let roots = roots(alloc, segment)?;
-    let owned = owned_blocks(alloc, segment.heap(), roots.as_slice())?;
+    let roots = roots(alloc, segment, watch)?;
+    let owned = owned_blocks(alloc, segment.heap(), roots.as_slice(), watch)?;
     let largest = most_units(owned.as_slice());
     let mut lines = IndentedText::new(alloc);
-    for it in &owned {
+    let mut pace = Pace::new();
+    for (number, it) in owned.iter().enumerate() {
+        pace.show(watch, Work::Printing, number as u64, owned.len() as u64);
         add_block(&mut lines, it, roots.as_slice(), largest);
     }
     lines.into_bytes()

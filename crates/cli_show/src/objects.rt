@@ -4,10 +4,11 @@ use crate::extent::{Detail, Extent};
 use crate::lines::IndentedText;
 use crate::parts::Selector;
 use crate::reached::Reached;
-use crate::roots::{Root, RootName, frozen_number, roots};
+use crate::roots::{Root, RootName, frozen_number, roots, value_count};
 use crate::selection::Selection;
 use crate::types::add_type;
 use crate::walk::{Met, ValueWalk, most_turns};
+use cli_progress::{Watch, Work};
 use seg_block::Fit;
 use seg_manager::{Heap, Place, Segment, Type, TypeId, frozen};
 use std::alloc::{AllocError, Global};
@@ -20,33 +21,40 @@ pub fn objects_text<F: Fit>(
     segment: &Segment<F, Global>,
     name: Option<&[u8]>,
     detail: Detail,
+    watch: &dyn Watch,
 ) -> Result<Option<Vec<u8>>, AllocError> {
-    let roots = roots(alloc, segment)?;
+    let roots = roots(alloc, segment, watch)?;
     let selection = Selection::of(name, roots.as_slice());
-    let mut shown = Shown::new(alloc, segment.heap(), detail, roots.as_slice())?;
+    let values = value_count(roots.as_slice());
+    let mut shown = Shown::new(alloc, segment.heap(), detail, roots.as_slice(), values)?;
     let mut found = selection.is_all();
     for root in &roots {
         if selection.has(root) || shown.reached.has(root.first.at) {
-            shown.add_object(root)?;
+            shown.add_object(root, watch)?;
             found = true;
+        } else {
+            shown.walk.skip(root.count);
         }
     }
     let lines = shown.lines.into_bytes()?;
     Ok(found.then_some(lines))
 }
 
-/// A value: a number, a text as a client's text spells it, or the lines that show another value.
+/// Values, one after the other: a number, a text as a client's text spells it, or the lines that show another value.
 pub fn value_lines<F: Fit>(
     alloc: Global,
     segment: &Segment<F, Global>,
-    value: Place,
+    values: &[Place],
+    watch: &dyn Watch,
 ) -> Result<Vec<u8>, AllocError> {
     let detail = Detail {
         extent: Extent::All,
         typed: false,
     };
-    let mut shown = Shown::new(alloc, segment.heap(), detail, &[])?;
-    shown.add_alone(value)?;
+    let mut shown = Shown::new(alloc, segment.heap(), detail, &[], values.len() as u64)?;
+    for value in values {
+        shown.add_alone(*value, watch)?;
+    }
     shown.lines.into_bytes()
 }
 
@@ -66,7 +74,7 @@ pub(crate) fn value_words<F: Fit>(
         extent: Extent::Cut,
         typed: false,
     };
-    let mut shown = Shown::new(alloc, heap, detail, &[])?;
+    let mut shown = Shown::new(alloc, heap, detail, &[], 0)?;
     shown.add_content(value);
     shown.lines.into_bytes()
 }
@@ -78,30 +86,34 @@ struct Shown<'h, F: Fit> {
     detail: Detail,
     lines: IndentedText,
     reached: Reached,
+    walk: ValueWalk,
 }
 
 impl<'h, F: Fit> Shown<'h, F> {
+    /// Shows this many values of these objects, or of others.
     fn new(
         alloc: Global,
         heap: &'h Heap<F, Global>,
         detail: Detail,
         roots: &[Root],
+        values: u64,
     ) -> Result<Shown<'h, F>, AllocError> {
         Ok(Shown {
             heap,
             detail,
             lines: IndentedText::new(alloc),
             reached: Reached::new(alloc, heap, roots)?,
+            walk: ValueWalk::new(alloc, detail.extent, Work::Printing, values),
         })
     }
 
     /// Adds an object, with its values and all values inside them.
-    fn add_object(&mut self, root: &Root) -> Result<(), AllocError> {
+    fn add_object(&mut self, root: &Root, watch: &dyn Watch) -> Result<(), AllocError> {
         let size = self.heap.types().size(root.first.type_id);
         for index in 0..root.count {
             add_root_name(&mut self.lines, root, index);
             self.add_root_type(root.first.type_id);
-            self.add_value(root.value(index, size))?;
+            self.add_value(root.value(index, size), watch)?;
         }
         Ok(())
     }
@@ -116,26 +128,26 @@ impl<'h, F: Fit> Shown<'h, F> {
     }
 
     /// Ends the line of a value, and adds the lines of all values inside it.
-    fn add_value(&mut self, value: Place) -> Result<(), AllocError> {
+    fn add_value(&mut self, value: Place, watch: &dyn Watch) -> Result<(), AllocError> {
         self.end_line(value);
-        self.add_parts(value)
+        self.add_parts(value, watch)
     }
 
     /// Adds a value without a name, and the lines of all values inside it.
-    fn add_alone(&mut self, value: Place) -> Result<(), AllocError> {
+    fn add_alone(&mut self, value: Place, watch: &dyn Watch) -> Result<(), AllocError> {
         match self.heap.types().kind(value.type_id) {
             Some(Type::Str) => self.lines.add_spelled(text_of(self.heap, value)),
             Some(_) | None => self.add_content(value),
         }
         self.lines.end();
-        self.add_parts(value)
+        self.add_parts(value, watch)
     }
 
     /// Adds the lines of all values inside a value.
-    fn add_parts(&mut self, value: Place) -> Result<(), AllocError> {
-        let mut walk = ValueWalk::new(self.lines.alloc(), self.heap, value, self.detail.extent)?;
+    fn add_parts(&mut self, value: Place, watch: &dyn Watch) -> Result<(), AllocError> {
+        self.walk.begin(self.heap, value, watch)?;
         for _ in 0..most_turns(self.heap.window().len()) {
-            let Some(met) = walk.next(self.heap)? else {
+            let Some(met) = self.walk.next(self.heap, watch)? else {
                 break;
             };
             match met {

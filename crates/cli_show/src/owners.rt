@@ -1,7 +1,8 @@
 use crate::blocks::{blocks, live_tag};
 use crate::extent::Extent;
-use crate::roots::Root;
+use crate::roots::{Root, value_count};
 use crate::walk::{Met, ValueWalk, most_turns};
+use cli_progress::{Watch, Work};
 use seg_block::{Block, Fit, HEAP_START, Tag};
 use seg_manager::{Heap, Place, Type, Window};
 use std::alloc::{AllocError, Global};
@@ -24,23 +25,29 @@ pub(crate) fn owned_blocks<F: Fit>(
     alloc: Global,
     heap: &Heap<F, Global>,
     roots: &[Root],
+    watch: &dyn Watch,
 ) -> Result<Vec<OwnedBlock>, AllocError> {
-    let blocks = unowned_blocks(alloc, heap.window())?;
+    let blocks = unowned_blocks(alloc, heap.window(), watch)?;
     let mut claims = Claims {
         before: blocks_before(alloc, heap.window(), blocks.as_slice())?,
         blocks,
+        walk: ValueWalk::new(alloc, Extent::All, Work::Mapping, value_count(roots)),
     };
     for (index, root) in roots.iter().enumerate() {
-        claim_object(alloc, heap, &mut claims, root, index)?;
+        claim_object(heap, &mut claims, root, index, watch)?;
     }
     let Claims { blocks, .. } = claims;
     Ok(blocks)
 }
 
 /// The blocks, each without an object.
-fn unowned_blocks(alloc: Global, w: &Window<Global>) -> Result<Vec<OwnedBlock>, AllocError> {
+fn unowned_blocks(
+    alloc: Global,
+    w: &Window<Global>,
+    watch: &dyn Watch,
+) -> Result<Vec<OwnedBlock>, AllocError> {
     let mut unowned = Vec::new(alloc);
-    for block in &blocks(alloc, w)? {
+    for block in &blocks(alloc, w, watch)? {
         unowned.push(OwnedBlock {
             block: *block,
             tag: live_tag(w, block.at),
@@ -78,6 +85,8 @@ struct Claims {
     blocks: Vec<OwnedBlock>,
     /// How many of the blocks begin before each page, and at last how many there are.
     before: Vec<usize>,
+    /// The walk through the objects that claim them.
+    walk: ValueWalk,
 }
 
 impl Claims {
@@ -101,31 +110,31 @@ impl Claims {
 
 /// Assigns blocks to an object: its own, and those of all values inside it.
 fn claim_object<F: Fit>(
-    alloc: Global,
     heap: &Heap<F, Global>,
     claims: &mut Claims,
     root: &Root,
     index: usize,
+    watch: &dyn Watch,
 ) -> Result<(), AllocError> {
     let size = heap.types().size(root.first.type_id);
     for value in 0..root.count {
-        claim_value(alloc, heap, claims, root.value(value, size), index)?;
+        claim_value(heap, claims, root.value(value, size), index, watch)?;
     }
     Ok(())
 }
 
 /// Assigns to an object the blocks of a value and of all values inside it.
 fn claim_value<F: Fit>(
-    alloc: Global,
     heap: &Heap<F, Global>,
     claims: &mut Claims,
     value: Place,
     index: usize,
+    watch: &dyn Watch,
 ) -> Result<(), AllocError> {
     claim_blocks(heap, claims, value, index);
-    let mut walk = ValueWalk::new(alloc, heap, value, Extent::All)?;
+    claims.walk.begin(heap, value, watch)?;
     for _ in 0..most_turns(heap.window().len()) {
-        match walk.next(heap)? {
+        match claims.walk.next(heap, watch)? {
             Some(Met::Part { part, .. }) => claim_blocks(heap, claims, part.place, index),
             Some(Met::End { .. }) => {}
             None => break,

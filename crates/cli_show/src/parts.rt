@@ -71,6 +71,11 @@ impl Parts {
         self.left
     }
 
+    /// How many parts there are.
+    pub(crate) fn count(&self) -> u32 {
+        self.came.saturating_add(self.left)
+    }
+
     pub(crate) fn next<F: Fit>(&mut self, heap: &Heap<F, Global>) -> Option<ValuePart> {
         self.left = self.left.checked_sub(1)?;
         let index = self.came;

@@ -1,5 +1,6 @@
 use crate::blocks::{blocks, live_tag};
 use crate::pattern::is_like;
+use cli_progress::{Pace, Watch, Work};
 use seg_block::{Fit, Kind, UNIT};
 use seg_manager::{
     Content, Heap, MAX_TYPES, Named, Place, Segment, TypeId, Window, first_name, next_name,
@@ -65,29 +66,40 @@ impl Root<'_> {
 
 /// The named objects in ascending order of their names, the unique ones in order of type, and then the frozen ones in descending
 /// order of their numbers, so that each comes before those that its cells point to.
-pub(crate) fn roots<F: Fit>(
+pub(crate) fn roots<'a, F: Fit>(
     alloc: Global,
-    segment: &Segment<F, Global>,
-) -> Result<Vec<Root<'_>>, AllocError> {
-    let mut roots = named_roots(alloc, segment)?;
+    segment: &'a Segment<F, Global>,
+    watch: &dyn Watch,
+) -> Result<Vec<Root<'a>>, AllocError> {
+    let mut roots = named_roots(alloc, segment, watch)?;
     for type_id in 0..MAX_TYPES as TypeId {
         if let Some(root) = unique_root(segment, type_id) {
             roots.push(root)?;
         }
     }
-    for root in &frozen_roots(alloc, segment.heap())? {
+    for root in &frozen_roots(alloc, segment.heap(), watch)? {
         roots.push(*root)?;
     }
     Ok(roots)
+}
+
+/// How many values the objects have.
+pub(crate) fn value_count(roots: &[Root]) -> u64 {
+    let mut count: u64 = 0;
+    for root in roots {
+        count = count.saturating_add(u64::from(root.count));
+    }
+    count
 }
 
 /// The frozen objects in descending order of their numbers.
 fn frozen_roots<F: Fit>(
     alloc: Global,
     heap: &Heap<F, Global>,
+    watch: &dyn Watch,
 ) -> Result<Vec<Root<'static>>, AllocError> {
     let mut frozen = Vec::new(alloc);
-    for block in &blocks(alloc, heap.window())? {
+    for block in &blocks(alloc, heap.window(), watch)? {
         if let Some(root) = frozen_root(heap, block.at) {
             frozen.push(root)?;
         }
@@ -133,13 +145,17 @@ fn unique_root<F: Fit>(segment: &Segment<F, Global>, type_id: TypeId) -> Option<
     })
 }
 
-fn named_roots<F: Fit>(
+fn named_roots<'a, F: Fit>(
     alloc: Global,
-    segment: &Segment<F, Global>,
-) -> Result<Vec<Root<'_>>, AllocError> {
+    segment: &'a Segment<F, Global>,
+    watch: &dyn Watch,
+) -> Result<Vec<Root<'a>>, AllocError> {
     let mut roots = Vec::new(alloc);
+    let mut pace = Pace::new();
+    let count = num_named(segment);
     let mut next = first_name(segment);
-    for _ in 0..num_named(segment) {
+    for number in 0..count {
+        pace.show(watch, Work::Listing, u64::from(number), u64::from(count));
         let Some(named) = next else {
             break;
         };

@@ -4,6 +4,7 @@ use crate::blocks::{blocks, live_tag};
 use crate::document::Document;
 use crate::dumping::{allocator_word, index_word};
 use crate::lines::IndentedText;
+use cli_progress::Watch;
 use seg_block::Fit;
 use seg_manager::{Segment, Window};
 use std::alloc::{AllocError, Global};
@@ -110,9 +111,10 @@ pub fn details<F: Fit>(
     alloc: Global,
     segment: &Segment<F, Global>,
     version: u32,
+    watch: &dyn Watch,
 ) -> Result<Vec<Statistic>, AllocError> {
     let w = segment.window();
-    let counts = block_counts(alloc, w)?;
+    let counts = block_counts(alloc, w, watch)?;
     let types = u32::try_from(segment.types().len()).unwrap_or(u32::MAX);
     let statistics = [
         Statistic::number("version", version),
@@ -133,14 +135,18 @@ fn fragmentation(counts: BlockCounts) -> u32 {
     u32::try_from(percent).unwrap_or(100)
 }
 
-fn block_counts(alloc: Global, w: &Window<Global>) -> Result<BlockCounts, AllocError> {
+fn block_counts(
+    alloc: Global,
+    w: &Window<Global>,
+    watch: &dyn Watch,
+) -> Result<BlockCounts, AllocError> {
     let mut counts = BlockCounts {
         allocated: 0,
         gaps: 0,
         free: 0,
         largest: 0,
     };
-    for block in &blocks(alloc, w)? {
+    for block in &blocks(alloc, w, watch)? {
         if live_tag(w, block.at).is_some() {
             counts.allocated = counts.allocated.saturating_add(1);
         } else {

@@ -17,7 +17,14 @@ fn main(rt: HostRuntime) -> ExitCode {
     let mut err = Watched::new(Through::new(reports), &progress);
     let mut files = HostFiles::new(&rt, &progress);
     let status = match words(&rt) {
-        Ok(words) => command(rt.alloc(), words.as_slice(), &mut files, &mut out, &mut err),
+        Ok(words) => command(
+            rt.alloc(),
+            words.as_slice(),
+            &mut files,
+            &mut out,
+            &mut err,
+            &progress,
+        ),
         Err(error) => refuse(&error, &mut err),
     };
     progress.clear();

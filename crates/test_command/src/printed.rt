@@ -1,6 +1,7 @@
 //! What a command prints.
 
 use cli_commands::command;
+use cli_host::Silent;
 use lezgauri::Through;
 use std::alloc::Global;
 use std::str;
@@ -32,7 +33,7 @@ impl Printed {
     pub(crate) fn by(alloc: Global, words: &[&str], files: &mut Stored, taken: Taken) -> Printed {
         let mut out = Through::new(Limited::new(alloc, taken.at_a_time, taken.in_all));
         let mut err = Through::new(Limited::unlimited(alloc));
-        let status = command(alloc, words, files, &mut out, &mut err);
+        let status = command(alloc, words, files, &mut out, &mut err, &Silent);
         Printed {
             status,
             out: out.into_inner().bytes,
