@@ -127,7 +127,7 @@ knows_same setting old new registers m s a default t there more same known = rec
 
 -- ---- rows
 
--- an answer that there is says what the next state is
+-- an answer determines the next state
 answered : (code : Answer) (a : ℕ) (x : Register) (s : State) (code' : Answer) (s' : State) → answer code a x s ≡ Some (code', s') → (code' ≡ code) × (s' ≡ set_register s a x)
 answered code a x s code' s' e = by (owned_by (register s a)) e
   where

@@ -42,7 +42,7 @@ number_held c at after held knowledge term r number found there =
           is = in_register.2 ∙ ap Register.Int (one_value (setting_of c) m knowledge.terms.list.items term in_register.0 (number m) in_register.1 (found.value m));
         }
 
--- what a clause says of the value in a `Some`, from two others
+-- a clause about the value in a `Some`, from two others
 pub both_then : {X : Type 0} (r : Option X) (P Q R : X → Type 0) → IfSome r P → IfSome r Q → ((x : X) → P x → Q x → R x) → IfSome r R
 both_then None P Q R p q f = p
 both_then (Some x) P Q R p q f = f x p q

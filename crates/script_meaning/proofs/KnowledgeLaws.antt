@@ -19,7 +19,7 @@ set_cases X (z ∷ zs) zero (suc q) x y is = inr is
 set_cases X (z ∷ zs) (suc r) zero x y is = inr is
 set_cases X (z ∷ zs) (suc r) (suc q) x y is = elim (set_cases X zs r q x y is) [ inl (e, f) ↦ inl (ap suc e, f) | inr e ↦ inr e ]
 
--- a register contains the number of what it is said to contain
+-- a register contains the number of its term
 pub record Gets (setting : Setting) (terms : List Term) (r : ℕ) (m : Moment) (s : State) (term : Option ℕ) : Type 0 where
   pub each : (at : ℕ) → term ≡ Some at → (k : ℤ) × HasValue setting m terms at k × (register s r ≡ Register.Int k)
 

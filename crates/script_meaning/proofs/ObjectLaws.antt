@@ -21,7 +21,8 @@ use Rattle.script_meaning.specs.Following.{Held, Holds, Tie, HasRoles, Simulates
 use Rattle.script_meaning.specs.Comparing.{setting_of, code_of, texts_of, holding, Follows, IsAt, IsAbout, IsFree, HoldsNumber, Marks, ChangesPlace, OpensStore, OpensChange, OpensObject, Computes}
 use Rattle.script_meaning.proofs.SequenceLaws.{hidden_then, then_hidden, weaker, OneDoes, one_code}
 use Rattle.script_meaning.proofs.QuietRunLaws.{Quiet, Went, picked_good, picked_bad, not_cut, WentOn, plain_went, nothing_went, opener_went, OpenerAt, opener_spelled, plain_spelled, nothing_spelled}
-use Rattle.script_meaning.proofs.ObjectRowLaws.{place, Answered, answered, set_same, set_other, set_either, KeepsHeld, keeps_then, keeps_same, keeps_set, free_apart, holds_after, first_number, number_there, Put, Loads, Refers, loads, load_quiet, StoresIn, stores_in, store_quiet}
+use Rattle.script_meaning.proofs.ObjectRowLaws.{place, Answered, answered, set_same, set_other, set_either, KeepsHeld, keeps_then, keeps_same, keeps_set, free_apart}
+use Rattle.script_meaning.proofs.ObjectRowLaws.{holds_after, first_number, number_there, Put, Loads, Refers, loads, load_quiet, StoresIn, stores_in, store_quiet}
 use Rattle.script_meaning.proofs.ObjectRowLaws.{Ready, Refused, Names, finds_or, find_quiet, IsFound, IsAbsent, finds, finds_quiet, Destroys, destroys, kill_quiet}
 use Rattle.script_meaning.proofs.ComputesLaws.{computes_plain, computes_no_freeze}
 

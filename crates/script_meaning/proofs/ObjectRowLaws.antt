@@ -356,7 +356,7 @@ module _ (setting : Setting) (x : ℕ) where
 
   -- ---- KILL
 
-  -- register a has whether there was an object, and there is none now
+  -- register a has whether there was an object, and now the name has no object
   pub record Destroys (a : ℕ) (s mid : State) : Type 0 where
     pub base : State
     pub code : ℤ
@@ -406,7 +406,8 @@ module _ (setting : Setting) (x : ℕ) where
     pub finds : i.operation ≡ operation.Find → i.c ≡ 16 → (room : Bool) (c : Answer) (mid : State) → outcome constants i room s ≡ Some (c, mid) → Finds i.a s c mid
     unfolding effect
     finds is first room c mid e =
-        let f : ((slice_get constants (constant_operand i.number) >>= λ (k : Constant). constant_name k (register s i.b)) >>= λ (n : List ℕ). integer_or (pos 0) i.c s >>= λ (y : ℤ). item_of_object i.a n (type_operand i.number) y (s.names n) s) ≡ Some (c, mid) =
+        let f : ((slice_get constants (constant_operand i.number) >>= λ (k : Constant). constant_name k (register s i.b)) >>= λ (n : List ℕ).
+        integer_or (pos 0) i.c s >>= λ (y : ℤ). item_of_object i.a n (type_operand i.number) y (s.names n) s) ≡ Some (c, mid) =
         ap (λ (op : Operation). effect constants op i.a i.b i.c i.number room s) (sym is) ∙ e in
         finds_item i.a s c mid (s.names the_name') refl
         (ap (λ (t : ℕ). item_of_object i.a the_name' t (pos 0) (s.names the_name') s) (sym type)

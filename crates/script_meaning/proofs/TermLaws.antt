@@ -86,7 +86,7 @@ extends_keeps setting m old new at k (more, is) e =
 -- ---- the value of each term
 
 module _ (setting : Setting) (m : Moment) (terms : List Term) (at : ℕ) where
-  -- those of the terms before it
+  -- the numbers of the terms before it
   before : List ℤ
   before = values_of setting m (take at terms)
 

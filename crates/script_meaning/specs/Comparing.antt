@@ -55,7 +55,8 @@ pub record HoldsNumber (held : Held) (r : ℕ) (number : Moment → ℤ) (m : Mo
 -- After code that no one sees, a term has this number.
 pub record NumberIsAt (c : Comparison) (at after : ℕ) (held : Held) (knowledge : Knowledge)
     (term : ℕ) (number : Moment → ℤ) : Type 0 where
-  pub before : Follows c at after (holding held) Stays (λ m s. Holds held m s × knowing c knowledge m s)
+  pub before : Follows c at after (holding held) Stays
+      (λ m s. Holds held m s × knowing c knowledge m s)
   pub value : (m : Moment) →
       HasValue (setting_of c) m knowledge.terms.list.items term (number m)
 
@@ -90,7 +91,8 @@ PrintsText c at text =
     × (0 < length text)
 
 -- These instructions load a number from a place, work out another, and store it there.
-pub record ChangesPlace (place : ℕ) (load compute store : Instruction) (op : Operation) : Type 0 where
+pub record ChangesPlace (place : ℕ) (load compute store : Instruction) (op : Operation) :
+    Type 0 where
   pub loads : load.operation ≡ operation.Load
   pub load_place : load.b ≡ place
   pub computes : compute.operation ≡ op
@@ -100,7 +102,7 @@ pub record ChangesPlace (place : ℕ) (load compute store : Instruction) (op : O
   pub store_place : store.b ≡ place
   pub store_number : store.c ≡ load.a
 
--- Where the registers contain what is known, the instruction gives register a the number of a term.
+-- If the registers contain what is known, the instruction gives register a the number of a term.
 abbrev pub GivesTerm : Knowledge → Knowledge → Instruction → ℕ → Type 0
 GivesTerm old new i at = (setting : Setting) (m : Moment) (s : State) →
     Knows setting old.terms.list.items old.registers m s →
@@ -190,8 +192,8 @@ pub record HasPlace (held : Held) (r v : ℕ) : Type 0 where
 
 -- the operation works out what the operator does
 abbrev pub Computes : Operator → Operation → Type 0
-Computes o op = (constants : List Constant) (a b c : ℕ) (number : ℤ) (room : Bool) (s : State) (x y : ℤ)
-    → register s b ≡ Register.Int x → register s c ≡ Register.Int y
+Computes o op = (constants : List Constant) (a b c : ℕ) (number : ℤ) (room : Bool) (s : State)
+    (x y : ℤ) → register s b ≡ Register.Int x → register s c ≡ Register.Int y
     → effect constants op a b c number room s ≡ give a (Register.Int (combined o x y)) s
 
 -- the whole code does what the statements do

@@ -31,7 +31,7 @@ operator_of computation.Less = operator.Less
 operator_of computation.Equal = operator.Equal
 
 module _ (setting : Setting) (m : Moment) where
-  -- the number of a term, given those of the terms before it
+  -- the number of a term, given the numbers of the terms before it
   abbrev pub term_value : List ℤ → Term → ℤ
   term_value earlier (term.Literal k) = k
   term_value earlier (term.Variable v) = m.variables v

@@ -160,8 +160,8 @@ ByObject setting x new otherwise None m m' end =
 ByObject setting x new otherwise (Some o) m m' end =
     Chosen (o.type == setting.int) (Changes setting x new m.world m m' end) (otherwise m m' end)
 
--- An object gets a number that depends on the moment and on its old one. It is made if there is
--- none of its name.
+-- An object gets a number that depends on the moment and on its old one. It is made if its
+-- name has none.
 abbrev pub Stores : Setting → ℕ → (Moment → ℤ → ℤ) → Meaning → Meaning
 Stores setting x new otherwise m m' end =
     ByObject setting x (new m) otherwise (m.world.names (name_of setting x)) m m' end
@@ -194,14 +194,16 @@ Does setting (code.Print' bytes p rest) = Then (Writes (λ m. bytes.items)) (Doe
 Does setting (code.PrintLine' e p rest) =
     Then (Writes (λ m. signed_decimal (value setting m e) ++ 10 ∷ [])) (Does setting rest)
 Does setting (code.If' e p on_true q on_false r rest) =
-    Then (If (λ m. value setting m e) (Does setting on_true) (Does setting on_false)) (Does setting rest)
+    Then (If (λ m. value setting m e) (Does setting on_true) (Does setting on_false))
+    (Does setting rest)
 Does setting (code.While' e n p body q rest) =
     Then (Turns n (λ m. value setting m e) (Does setting body)) (Does setting rest)
 Does setting (code.WhileElse' e n p body q on_false r rest) =
     Then (Then (Turns n (λ m. value setting m e) (Does setting body))
     (If (λ m. value setting m e) (Does setting on_false) Stays)) (Does setting rest)
 Does setting (code.Store' x e p otherwise q rest) =
-    Then (Stores setting x (λ m old. value setting m e) (Does setting otherwise)) (Does setting rest)
+    Then (Stores setting x (λ m old. value setting m e) (Does setting otherwise))
+    (Does setting rest)
 Does setting (code.Change' x o e p otherwise q rest) =
     Then (Stores setting x (λ m old. combined o old (value setting m e)) (Does setting otherwise))
     (Does setting rest)

@@ -164,7 +164,7 @@ impl<'a> Reader<'a> {
         Ok(Box::new(self.alloc, code)?)
     }
 
-    /// The statements of an `else`, or without one those of `fail`.
+    /// The statements of an `else`, or of `fail` if there is no `else`.
     #[cycle(core)]
     fn on_failure(&mut self, part: Option<ElsePart>, depth: usize) -> Result<Box<Code>, Beyond> {
         let depth = deeper(depth)?;
@@ -463,7 +463,7 @@ impl<'a> Reader<'a> {
 
     // Names
 
-    /// The name that is a whole expression.
+    /// The name, if an expression is only a name.
     fn plain_name(&self, at: ExpressionAt) -> Option<Span> {
         let expression = self.tree.expression(at)?;
         match expression.kind {
@@ -472,7 +472,7 @@ impl<'a> Reader<'a> {
         }
     }
 
-    /// The visible variable with the name that is a whole expression.
+    /// The visible variable, if an expression is only its name.
     fn variable(&self, at: ExpressionAt) -> Option<usize> {
         let name = self.tree.word(self.plain_name(at)?);
         let visible = self.locals.get(self.visible..)?;
@@ -491,7 +491,7 @@ impl<'a> Reader<'a> {
         Ok(number)
     }
 
-    /// The object of type `int` with the name that is a whole expression.
+    /// The object of type `int`, if an expression is only its name.
     fn object(&mut self, at: ExpressionAt) -> Result<usize, Beyond> {
         if self.variable(at).is_some() {
             return Err(Beyond::Core);

@@ -50,7 +50,8 @@ impl Held {
 
     /// Whether no register contains this variable.
     pub(crate) fn lacks(&self, variable: usize) -> bool
-        ensures { result ≡ true → (r : ℕ) → slice_get self.now.variables r ≡ Some (Some variable) → ⊥ }
+        ensures { result ≡ true → (r : ℕ)
+            → slice_get self.now.variables r ≡ Some (Some variable) → ⊥ }
     {
         self.variables.iter().all(|found| *found != Some(variable))
     }

@@ -42,7 +42,7 @@ pub enum Code {
     PrintLine(Number, Box<Code>),
     /// The first statements run if the number isn't 0, and the second ones if it is.
     If(Number, Box<Code>, Box<Code>, Box<Code>),
-    /// The first statements run as long as the number isn't 0, but at most so many times.
+    /// The first statements run as long as the number isn't 0, but at most that many times.
     While(Number, u32, Box<Code>, Box<Code>),
     /// Like `While`. The second statements run if the number isn't 0 after the last turn.
     WhileElse(Number, u32, Box<Code>, Box<Code>, Box<Code>),

@@ -15,7 +15,7 @@ use crate::program::Number;
 use crate::terms::TermAt;
 use client_code::{ConstantKind, Instruction, Operation};
 
-/// Where a variable was set.
+/// The place at which a variable was set.
 #[derive(Debug, Clone, Copy)]
 pub(crate) struct SetAt {
     /// The position after the code.
@@ -24,7 +24,7 @@ pub(crate) struct SetAt {
     pub(crate) register: u8,
 }
 
-/// Where a part was opened after which a register contains a number.
+/// The place at which a part was opened after which a register contains a number.
 #[derive(Debug, Clone, Copy)]
 pub(crate) struct Opened {
     /// The position of the part.
@@ -32,7 +32,7 @@ pub(crate) struct Opened {
     pub(crate) register: u8,
 }
 
-/// Where a number was worked out.
+/// The place at which a number was worked out.
 #[derive(Debug, Clone, Copy)]
 struct NumberAt {
     after: usize,
@@ -40,7 +40,7 @@ struct NumberAt {
 }
 
 impl Comparison<'_> {
-    /// Where a variable gets a number.
+    /// The place at which a variable gets a number.
     pub(crate) fn set(
         &self,
         knowledge: &mut Knowledge,
@@ -116,7 +116,7 @@ impl Comparison<'_> {
         Some(constant.bytes)
     }
 
-    /// Where code that no one sees ends, and the term of a number there.
+    /// The end of code that no one sees, and the term of a number there.
     fn number_at(
         &self,
         knowledge: &mut Knowledge,
@@ -307,7 +307,7 @@ impl Comparison<'_> {
         self.mark(Operation::Else, store_at.checked_add(1)?)
     }
 
-    /// Where a part begins in which a new variable has an object's number: after `FIND` and `LOAD`.
+    /// The beginning of a part in which a new variable has an object's number: after `FIND` and `LOAD`.
     pub(crate) fn open_object(
         &self,
         knowledge: &mut Knowledge,

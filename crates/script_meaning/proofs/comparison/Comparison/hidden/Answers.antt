@@ -1,4 +1,4 @@
--- The code is hidden up to the present position; a step goes on, and where there is none, at most terms were added.
+-- The code is hidden up to the present position; a step continues it; if no step does, at most terms were added.
 use Rattle.std.proofs.Common.{sym, refl}
 use Rattle.script_meaning.specs.Meaning.{Stays}
 use Rattle.script_meaning.specs.Comparing.{code_of, texts_of, knowing}
