@@ -108,7 +108,7 @@ impl ValueWalk {
         Ok(Some(Met::Part { level, part }))
     }
 
-    /// Goes on with the parts of a value.
+    /// Continues with the parts of a value.
     fn enter<F: Fit>(
         &mut self,
         heap: &Heap<F, Global>,
