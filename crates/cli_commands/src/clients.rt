@@ -24,7 +24,7 @@ pub struct Verification<'a> {
 }
 
 /// `verify FILE CLIENT`: prints the most steps that the client can take on the image; of a program or a text also what each line
-/// takes, if that is asked for.
+/// takes, and of a program whether its client was shown to do what it says, if that is asked for.
 pub fn verify_file<'a, F: Files, O: Sink, E: Sink>(
     alloc: Global,
     verification: Verification<'a>,

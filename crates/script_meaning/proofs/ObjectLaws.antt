@@ -124,7 +124,7 @@ module _ (constants : List Constant) (setting : Setting) (x : ℕ) (new : Moment
       subst (λ (t : State). KeepsHeld held s t) (sym r.mid_is)
       (keeps_then held s r.base (set_register r.base a (Register.Reference (place (name_of setting x)))) (keeps_same held s r.base r.registers) (keeps_set held r.base a _ free))
 
-  -- another register is as it was before FINDOR
+  -- another register contains the same as before FINDOR
   ready_other : (a b : ℕ) (s mid : State) → b ≢ a → Ready setting x new otherwise a s mid → register mid b ≡ register s b
   ready_other a b s mid ne r =
       ap (λ (t : State). register t b) r.mid_is ∙ set_other r.base a b (Register.Reference (place (name_of setting x))) ne ∙ ap (λ (t : List Register). slice_index_or t b Register.Undefined) r.registers
