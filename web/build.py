@@ -25,7 +25,7 @@ MODULE = "lezgauri_web"
 HOST = "web_host"
 # The crates that take their memory from the C library, and so are changed in the copies.
 PRINTING = ("cli_show", "cli_explain", "client_trace")
-COMPILING = ("script_syntax", "script_code", "script_places", "script_values", "script_statements", "script_compile")
+COMPILING = ("script_syntax", "script_code", "script_values", "script_statements", "script_compile")
 CHANGED = (*PRINTING, *COMPILING)
 USED = ("lezgauri", "client_vm", *PRINTING, "script_compile")
 PROGRAMS = ("cache", "configure", "count", "increment", "notice", "publish", "settings")

@@ -3,7 +3,7 @@
 ghost use Rattle.std.specs.Prelude.{◌≡◌, false};
 
 use crate::door::{assembled, opened, printed, verified};
-use crate::programs::{client_of, is_client_text, tell_warnings};
+use crate::programs::{CoreClient, client_of, compiled_core, is_client_text, tell_warnings};
 use cli_explain::{ProgramLines, explain_steps};
 use cli_host::{
     Assembly, Files, Format, Watch, is_program, read_file, read_image, refuse_input,
@@ -12,7 +12,6 @@ use cli_host::{
 use cli_program::{Failure, print};
 use lezgauri::{Image, Sink, Verified};
 use script_compile::Client;
-use script_meaning::shown_core;
 use std::alloc::{AllocError, Global};
 
 /// The files to verify: an image and a client. If it is explained, what each line of the client costs is asked for too.
@@ -37,24 +36,29 @@ pub fn verify_file<'a, F: Files, O: Sink, E: Sink>(
 {
     let Verification {
         image,
-        client,
+        client: name,
         explained,
     } = verification;
     let image = read_image(alloc, files, image)?;
-    let bytes = read_file(alloc, files, client)?;
+    let bytes = read_file(alloc, files, name)?;
     let image = opened(alloc, image, watch)?;
     let source = bytes.as_slice();
-    let is_program = is_program(client);
-    let text = if explained && (is_program || is_client_text(client, source)) {
+    let is_program = is_program(name);
+    let (client, meaning) = if explained && is_program {
+        let CoreClient { client, core } = compiled_core(alloc, name, source, image.types())?;
+        (client, meaning_line(core.is_some()))
+    } else {
+        (client_of(alloc, name, source, image.types())?, "")
+    };
+    tell_warnings(&client.warnings, err);
+    let text = if explained && (is_program || is_client_text(name, source)) {
         Some(Text {
             bytes: source,
-            is_program,
+            meaning,
         })
     } else {
         None
     };
-    let client = client_of(alloc, client, source, image.types())?;
-    tell_warnings(&client.warnings, err);
     verify_client(alloc, &image, &client, text, out)
 }
 
@@ -62,8 +66,8 @@ pub fn verify_file<'a, F: Files, O: Sink, E: Sink>(
 #[derive(Clone, Copy)]
 struct Text<'a> {
     bytes: &'a [u8],
-    /// Whether it is a program, and not an assembler text.
-    is_program: bool,
+    /// The line that tells whether the client of a program was shown to do what it says.
+    meaning: &'static str,
 }
 
 /// Prints the most steps of a client, and what each line of its text or program costs if that is given.
@@ -82,25 +86,20 @@ fn verify_client<'a, O: Sink>(
     match text {
         Some(text) if !out.failed() => {
             let mut table = steps_of(alloc, text.bytes, client.lines.as_slice(), &verified)?;
-            if text.is_program {
-                table.push_str(meaning_line(alloc, text.bytes, client)?)?;
-            }
+            table.push_str(text.meaning)?;
             print(out, table.as_bytes())
         }
         _ => Ok(()),
     }
 }
 
-/// Whether a program's client was shown to do what the program says.
-fn meaning_line(
-    alloc: Global,
-    program: &[u8],
-    client: &Client,
-) -> Result<&'static str, AllocError> {
-    Ok(match shown_core(alloc, program, client.bytes.as_slice())? {
-        Some(_) => "meaning shown\n",
-        None => "meaning not shown\n",
-    })
+/// The line that tells whether the client of a program was shown to do what it says.
+fn meaning_line(is_shown: bool) -> &'static str {
+    if is_shown {
+        "meaning shown\n"
+    } else {
+        "meaning not shown\n"
+    }
 }
 
 /// What each line of a program or a text costs.

@@ -9,3 +9,4 @@ mod programs;
 mod traces;
 
 pub use program::command;
+pub use programs::{CoreClient, compiled_core};

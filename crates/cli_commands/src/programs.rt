@@ -1,6 +1,7 @@
 //! Programs: the command that compiles one, and programs and assembler texts in place of clients.
 
-ghost use Rattle.std.specs.Prelude.{◌≡◌, false};
+ghost use Rattle.std.specs.Prelude.{◌≡◌, false, IfOk, IfSome};
+ghost use Rattle.script_meaning.specs.Following.{FileMeans};
 
 use crate::door::{assembled, checked, compiled, parsed};
 use cli_explain::instruction_lines;
@@ -11,6 +12,7 @@ use cli_host::{
 use cli_program::{Failure, Inputs, read_inputs, run_inputs, tell};
 use lezgauri::{Fault, Refused, Sink, TypeTable};
 use script_compile::Client;
+use script_meaning::{Program, shown_core};
 use std::alloc::{AllocError, Global};
 
 /// `compile PROGRAM OUT [--on IMAGE] [--force]`: compiles a program for an image's types, and writes the client. Refuses to write
@@ -149,6 +151,29 @@ fn numbered<'a>(failure: Failure<'a>, number: usize) -> Failure<'a> {
         }),
         other => other,
     }
+}
+
+/// The client of a program, and its core.
+#[derive(Drop)]
+pub struct CoreClient {
+    pub client: Client,
+    /// What the client was shown to do. `None` if the program isn't one of the core, or if that couldn't be shown.
+    pub core: Option<Program>,
+}
+
+/// Compiles the program in a file with this name, for an image with these types, and compares its client with the program. If that
+/// succeeds, the client does what the program says.
+pub fn compiled_core<'a>(
+    alloc: Global,
+    name: &str,
+    source: &[u8],
+    types: &TypeTable,
+) -> Result<CoreClient, Failure<'a>>
+    ensures { IfOk result (λ made. IfSome made.core (FileMeans made.client.bytes.items)) }
+{
+    let client = compiled(alloc, name, source, types)?;
+    let core = shown_core(alloc, source, client.bytes.as_slice())?;
+    Ok(CoreClient { client, core })
 }
 
 /// The client in a file with this name, for an image with these types. A program is compiled, and a text is assembled.

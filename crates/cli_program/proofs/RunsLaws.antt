@@ -1,7 +1,7 @@
 -- What a run read, and how it failed.
 use Rattle.std.proofs.Common.{◌≡◌, ◌⊎◌, inl, inr, subst, ℕ, List, [], ◌∷◌, ◌++◌, length, map, Option, Result}
 use Rattle.std.specs.Prelude.{IfNone, OnOk, Ok, Err}
-use Rattle.client_verify.specs.declared.refused.Refused.{Refused}
+use Rattle.client_vm.specs.Refused.{Refused}
 use Rattle.client_vm.specs.declared.report.Report.{Report}
 use Rattle.client_vm.specs.declared.report.Ended.{Ended}
 use Rattle.client_vm.specs.declared.report.Ended.TheVariants.{Done, OutputFailed}

@@ -3,8 +3,8 @@
 --     failure_of failure           a failed file, as the failure of a command
 --     IsUnsaved ..                 why an image wasn't saved, or that the output had failed
 use Rattle.std.specs.Prelude.{◌≡◌, ◌⊎◌, Bool, false, List, [], ◌∷◌, Option, None}
-use Rattle.seg_raw.specs.declared.fault.Fault.TheVariants.{Memory}
-use Rattle.client_verify.specs.declared.refused.Refused.{Refused}
+use Rattle.client_vm.specs.Fault.TheVariants.{Memory}
+use Rattle.client_vm.specs.Refused.{Refused}
 use Rattle.client_vm.specs.declared.report.Ended.{Ended}
 use Rattle.client_vm.specs.declared.report.Ended.TheVariants.{OutputFailed}
 use Rattle.cli_host.specs.Accesses.{Access, AddsAccesses}

@@ -16,7 +16,7 @@ use Rattle.std.proofs.Common.{Bor}
 use Rattle.client_vm.specs.declared.report.Report.{Report}
 use Rattle.client_vm.specs.declared.report.Ended.{Ended}
 use Rattle.client_vm.specs.declared.report.Ended.TheVariants.{Done, OutputFailed}
-use Rattle.client_verify.specs.declared.refused.Refused.{Refused}
+use Rattle.client_vm.specs.Refused.{Refused}
 use Rattle.client_vm.specs.Jobs.{Job, job_at, effect_at}
 use Rattle.client_vm.specs.Outcomes.{HasOutcome, IsRefusedFor}
 use Rattle.cli_host.specs.Accesses.{Access, AddsAccesses, access, accesses_of}

@@ -4,7 +4,7 @@ use Rattle.std.specs.Prelude.{codes, ◌<◌, All}
 use Rattle.std.proofs.lemmas.List.{take-append-drop}
 use Rattle.std.proofs.lemmas.Slice.Eq.{slice_eq-Decides}
 use Rattle.std.proofs.lemmas.Bool.Decides.{Decides-eqb, not_from_Decides}
-use Rattle.seg_spec.specs.Types.{Form}
+use Rattle.client_spec.specs.Types.{Form}
 use Rattle.client_spec.specs.Syntax as code
 use Rattle.client_spec.specs.declared.table.Operation.{Operation}
 use Rattle.client_spec.specs.Syntax.{Constant}

@@ -2,7 +2,7 @@
 use Rattle.std.proofs.Common.{◌≡◌, ℕ, ℤ, pos, negsuc, ◌<◌, ◌≤◌, ◌/◌, ◌%◌, Option, Some, None, IfNone, FitsSigned, List, [], ◌∷◌, ◌++◌, length, sym, ap, ◌∙◌, subst, arith, append_assoc, append-nil}
 use Rattle.std.specs.Prelude.{is_some}
 use Rattle.std.specs.Int.{w32}
-use Rattle.seg_spec.specs.Types.{Table}
+use Rattle.client_spec.specs.Types.{Table}
 use Rattle.client_spec.specs.declared.table.Operation.{Operation}
 use Rattle.client_spec.specs.declared.table.Operand.{Operand}
 use Rattle.client_spec.specs.declared.table.Operand.TheVariants as operand

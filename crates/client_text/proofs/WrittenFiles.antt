@@ -5,7 +5,7 @@ use Rattle.std.proofs.lemmas.List.{flat_map_more, take_all}
 use Rattle.std.proofs.lemmas.List.Concat.{flat_map-append}
 use Rattle.std.proofs.lemmas.List.Folds.{flat_map-map}
 use Rattle.std.proofs.lemmas.List.Elements.{All-push}
-use Rattle.seg_spec.specs.Types.{Form, Table, version_of, form_bytes}
+use Rattle.client_spec.specs.Types.{Form, Table, version_of, form_bytes}
 use Rattle.client_spec.specs.Syntax.{Constant, Instruction}
 use Rattle.client_spec.specs.Grammar.{file_version, constant_bytes, instruction_bytes}
 use Rattle.client_spec.specs.Text.{Item, type_item, constant_item, instruction_item, SpellsItem, EachSpells}

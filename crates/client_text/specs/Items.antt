@@ -5,7 +5,7 @@
 --     IsWords item          its line consists of words with spaces between them
 use Rattle.std.specs.Prelude.{⊤, ◌≤◌, ℕ, List, length, FitsSigned}
 use Rattle.std.specs.Int.{w32}
-use Rattle.seg_spec.specs.Types.{Table, IsForm, form_bytes}
+use Rattle.client_spec.specs.Types.{Table, IsForm, form_bytes}
 use Rattle.seg_layout.specs.Forms.{form_of}
 use Rattle.client_spec.specs.Syntax as code
 use Rattle.client_spec.specs.Operations.{row_of}

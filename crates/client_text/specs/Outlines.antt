@@ -6,7 +6,7 @@
 --     outline_of header      the sections that a header counts
 --     entry_total header     the number of items that a header counts
 use Rattle.std.specs.Prelude.{◌≡◌, ℕ, ◌+◌, ◌≤◌, max, List, [], ◌∷◌, ◌++◌, replicate}
-use Rattle.seg_spec.specs.Types.{version_of}
+use Rattle.client_spec.specs.Types.{version_of}
 use Rattle.client_spec.specs.Text.{Item, type_item, constant_item, instruction_item}
 use Rattle.client_code.specs.declared.header.FileHeader.{FileHeader}
 use Rattle.client_text.specs.declared.outline.Section.{Section}

@@ -1,5 +1,5 @@
 ghost use Rattle.std.specs.Prelude.{◌≡◌, ◌+◌, ◌++◌, OnOk};
-ghost use Rattle.seg_spec.specs.Bytes.{spelling};
+ghost use Rattle.client_spec.specs.Bytes.{spelling};
 ghost use Rattle.client_text.specs.Headers.{header_bytes};
 
 use client_code::{FileHeader, MAGIC};

@@ -1,7 +1,7 @@
 ghost use Rattle.std.specs.Prelude.{◌≡◌, ◌≢◌, ◌≤◌, ◌<◌, ◌/◌, ◌%◌, ◌∷◌, ◌++◌, [], ℕ, ℤ, List, map, codes, length, All, IfSome, IfNone, OnOk, FitsSigned};
 ghost use Rattle.std.specs.Int.{w32};
 ghost use Rattle.std.specs.Fmt.{decimal};
-ghost use Rattle.seg_spec.specs.Types.{Form, IsForm, Table};
+ghost use Rattle.client_spec.specs.Types.{Form, IsForm, Table};
 ghost use Rattle.seg_layout.specs.Forms.{form_of};
 ghost use Rattle.client_spec.specs.Syntax as syntax;
 ghost use Rattle.client_spec.specs.Grammar.{IsOperand, IsNumber};

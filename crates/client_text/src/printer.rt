@@ -1,6 +1,6 @@
 ghost use Rattle.std.specs.Prelude.{◌≡◌, ◌∷◌, [], ◌++◌, if◌then◌else◌, OnOk, IfOk, IfErr, All, Some, slice_get, flat_map, map};
 ghost use Rattle.seg_layout.specs.Forms.{form_of};
-ghost use Rattle.seg_spec.specs.Types.{Form, form_at};
+ghost use Rattle.client_spec.specs.Types.{Form, form_at};
 ghost use Rattle.client_spec.specs.Syntax as syntax;
 ghost use Rattle.client_spec.specs.Grammar.{SpellsClient, listing, IsConstant, IsNameByte};
 ghost use Rattle.client_spec.specs.Text.{type_item, constant_item, instruction_item, operand_words, number_words, type_word, is_plain, escaped, text_spelling, spaced_words, text_of};

@@ -2,7 +2,7 @@
 -- tree, and counts the tree's bound, capped at the highest number.
 use Rattle.std.proofs.Common.{◌≡◌, ℕ, ◌+◌, ◌-◌, ◌*◌, ◌^◌, ◌<◌, ◌≤◌, true, List, [], ◌∷◌, ◌++◌, length, refl, sym, ap, ◌∙◌, arith, rules, append_assoc, Ok, Err}
 use Rattle.std.specs.Prelude.{max, nat_lt, nat_abs, if◌then◌else◌}
-use Rattle.seg_spec.specs.Types.{Table}
+use Rattle.client_spec.specs.Types.{Table}
 use Rattle.client_spec.specs.declared.table.Operation.{Operation}
 use Rattle.client_spec.specs.Syntax.{Constant, Instruction, Statement, plain, opener, loop, Statements, no_more, next}
 use Rattle.client_spec.specs.declared.table.Role.{Role}

@@ -6,7 +6,7 @@ use Rattle.std.specs.Prelude.{ℤ, pos, negsuc, List, if◌then◌else◌, slice
 use Rattle.std.specs.Option.{is_some, option_and_then}
 use Rattle.std.proofs.lemmas.Bool.{ltb-false}
 use Rattle.std.proofs.lemmas.Option.{slice_get_past}
-use Rattle.seg_spec.specs.Types.{Form}
+use Rattle.client_spec.specs.Types.{Form}
 use Rattle.client_spec.specs.Answer.{owned_type, vec_or_list_item, list_item, map_value, shared_type, index_below}
 use Rattle.client_spec.specs.Typed.{Class, RegisterType, is_i64, is_str, is_map, can_pop, has_length, can_shrink, item_known, field_type, content_known}
 use Rattle.client_spec.specs.declared.table.Kinds.{Kinds}

@@ -7,7 +7,7 @@
 use Rattle.std.proofs.Common.{◌≡◌, ℕ, refl, sym, ap, ◌∙◌, arith, Bool, true, false, Option, Some, None, Ok, Err}
 use Rattle.std.specs.Prelude.{⊤, ℤ, ◌==◌, if◌then◌else◌}
 use Rattle.std.specs.Option.{is_some, option_and_then}
-use Rattle.seg_spec.specs.Types.{Form, Table, form_at}
+use Rattle.client_spec.specs.Types.{Form, Table, form_at}
 use Rattle.client_spec.specs.Syntax.{Constant}
 use Rattle.client_spec.specs.Grammar.{NamesBy, IsTextConstant}
 use Rattle.client_spec.specs.Typed.{Class, RegisterType, RegisterTypes, Reason, Checked, ◌>>=◌, Rule, known, is_owner, integer_needed, reference_needed, owner_needed}

@@ -2,7 +2,7 @@
 --     rule_same     for the columns of an operation's row
 use Rattle.std.proofs.Common.{◌≡◌, ◌%◌, ℕ, refl, sym, ap, ◌∙◌, List}
 use Rattle.std.specs.Prelude.{ℤ, ◌==◌, pos, negsuc, nat_abs, not, slice_get, slice_set}
-use Rattle.seg_spec.specs.Types.{Table, form_at}
+use Rattle.client_spec.specs.Types.{Table, form_at}
 use Rattle.client_spec.specs.Answer.{type_operand, constant_operand}
 use Rattle.client_spec.specs.Syntax.{Constant, Instruction}
 use Rattle.client_spec.specs.declared.table.Number.{Number}

@@ -4,7 +4,7 @@ use Rattle.std.specs.Prelude.{slice_get}
 use Rattle.std.proofs.Math.Seq.{take-suc}
 use Rattle.std.proofs.lemmas.List.{map-append, take-map, get_or_default}
 use Rattle.seg_raw.specs.declared.fault.Fault.{Fault}
-use Rattle.seg_spec.specs.Types.{Table, longer}
+use Rattle.client_spec.specs.Types.{Table, longer}
 use Rattle.client_spec.specs.Syntax.{Client}
 use Rattle.client_spec.specs.Grammar.{SpellsClient}
 use Rattle.client_spec.specs.Clients.{IsVerified, AreAccepted, table_after}

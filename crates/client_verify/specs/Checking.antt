@@ -9,7 +9,7 @@
 --                                                is known after it in both parts, or either
 use Rattle.std.specs.Prelude.{⊤, ℕ, ℤ, pos, negsuc, List, Bool, true, false, not, ◌==◌, if◌then◌else◌, Option, Some, None, Ok, slice_get, slice_set}
 use Rattle.std.specs.Option.{is_some, option_and_then}
-use Rattle.seg_spec.specs.Types.{Form, Table, form_at}
+use Rattle.client_spec.specs.Types.{Form, Table, form_at}
 use Rattle.client_spec.specs.declared.table.Role.{Role}
 use Rattle.client_spec.specs.declared.table.Row.{Row}
 use Rattle.client_spec.specs.Typed.{Class, RegisterType, RegisterTypes, Reason, Checked, ◌>>=◌, Rule, known, same_class, is_owner, required, ended, others_ended, sharing, frozen, is_frozen}

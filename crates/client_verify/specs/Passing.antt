@@ -8,7 +8,7 @@
 --                                        beginning of each of its parts
 --     at_most n                          n, or the highest number of steps that the verifier counts
 use Rattle.std.specs.Prelude.{ℕ, ◌+◌, ◌*◌, ◌^◌, ◌-◌, min, max, nat_abs, List, [], ◌∷◌, length, replicate, nat_lt, if◌then◌else◌, Ok}
-use Rattle.seg_spec.specs.Types.{Table}
+use Rattle.client_spec.specs.Types.{Table}
 use Rattle.client_spec.specs.Syntax.{Constant, Instruction}
 use Rattle.client_spec.specs.declared.table.Role.{Role}
 use Rattle.client_spec.specs.Operations.{row_of}

@@ -4,7 +4,7 @@
 use Rattle.std.specs.Prelude.{◌≡◌, ◌+◌, ◌<◌, ◌^◌, ℕ, replicate, take, Ok, Err}
 use Rattle.seg_raw.specs.declared.fault.Fault.{Fault}
 use Rattle.seg_raw.specs.declared.fault.Fault.TheVariants as fault
-use Rattle.seg_spec.specs.Types.{Table, Agree, IsFirstDifference}
+use Rattle.client_spec.specs.Types.{Table, Agree, IsFirstDifference}
 use Rattle.client_spec.specs.Syntax.{Client}
 use Rattle.client_spec.specs.Grammar.{listing}
 use Rattle.client_spec.specs.Run.{bound}

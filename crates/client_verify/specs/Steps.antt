@@ -2,7 +2,7 @@
 --     rule_input rule                  what the rule reads
 --     rule_types, before_of, instruction_in   the types, what is known before it, and the
 --                                             instruction
-use Rattle.seg_spec.specs.Types.{Table}
+use Rattle.client_spec.specs.Types.{Table}
 use Rattle.client_code.specs.declared.instruction.Instruction.{Instruction}
 use Rattle.client_verify.specs.declared.registers.Registers.{Registers}
 use Rattle.client_verify.specs.declared.rule.Rule.{Rule}

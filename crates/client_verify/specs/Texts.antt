@@ -6,7 +6,7 @@
 --                                         accepted
 --     AreWrong table texts refused        a file has a fault, or the program ran out of memory
 use Rattle.std.specs.Prelude.{◌≡◌, ℕ, List, map, take, Option, Some, None, slice_get}
-use Rattle.seg_spec.specs.Types.{Table}
+use Rattle.client_spec.specs.Types.{Table}
 use Rattle.seg_raw.specs.declared.fault.Fault.{Fault}
 use Rattle.seg_raw.specs.declared.fault.Fault.TheVariants as fault
 use Rattle.client_spec.specs.Syntax.{Client}

@@ -1,5 +1,5 @@
 ghost use Rattle.std.specs.Prelude.{◌≡◌, List, map, IfOk, IfErr};
-ghost use Rattle.seg_spec.specs.Types.{longer};
+ghost use Rattle.client_spec.specs.Types.{longer};
 ghost use Rattle.client_spec.specs.Syntax as syntax;
 ghost use Rattle.client_spec.specs.Grammar.{SpellsClient};
 ghost use Rattle.client_spec.specs.Clients.{IsVerified, AreAccepted};

@@ -35,7 +35,7 @@ pub struct Rule<'a> {
 
 impl<'a> Rule<'a> {
     ghost use Rattle.std.specs.Option.{option_map};
-    ghost use Rattle.seg_spec.specs.Types.{form_at};
+    ghost use Rattle.client_spec.specs.Types.{form_at};
     ghost use Rattle.seg_layout.specs.Forms.{form_of};
     ghost use Rattle.client_verify.specs.Views.{register_type_of};
     ghost use Rattle.client_verify.specs.Checking.{referred, field_at, part_of, is_kind, is_kind_at, is_inside, is_lost, shares, part_known, borrowed_from, held, part_held as part_in, meets as meets_in, given as given_in, checked_by, known_in_parts};

@@ -15,3 +15,7 @@ pub mod Outcomes
 pub mod Reports
 pub mod Admitted
 pub mod Together
+-- the words of the crates below that the contracts above cite
+pub use Rattle.seg_raw.specs.declared.fault.Fault
+pub use Rattle.client_verify.specs.Refusals
+pub use Rattle.client_verify.specs.declared.refused.Refused

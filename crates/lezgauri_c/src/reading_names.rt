@@ -17,7 +17,7 @@ use crate::place::{Place, give, type_number};
 use crate::reader::Reader;
 use crate::reading::{on_reader, tell};
 use lezgauri::ImageRead;
-use seg_entry::NameEntry;
+use seg_cells::NameEntry;
 use seg_raw::Code;
 use std::alloc::Global;
 

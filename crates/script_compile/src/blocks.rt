@@ -2,8 +2,7 @@
 
 use crate::compiler::Compiler;
 use crate::constructs::ConstructKind;
-use script_code::{ErrorKind, Register};
-use script_places::{Emitter, Sequence, Task};
+use script_code::{Emitter, ErrorKind, Register, Sequence, Task};
 use script_syntax::{Block, Range, Span, Statement, StatementAt, StatementKind, Tree};
 
 /// No statements.

@@ -2,8 +2,7 @@
 
 use crate::compiler::Compiler;
 use crate::constructs::{Construct, ConstructKind};
-use script_code::ErrorKind;
-use script_places::Task;
+use script_code::{ErrorKind, Task};
 use script_syntax::{ExpressionAt, Range, Span, Tree};
 use script_values::{begin_call, called_function, enter_function, guard_rest, leave_function};
 

@@ -4,8 +4,10 @@ use crate::constructs::Constructs;
 use crate::nests::{NestKind, Nests, NestsMark};
 use crate::seen::SeenNames;
 use crate::variables::{Variables, VariablesMark};
-use script_code::{Code, Error, ErrorClass, Meaning, Name, Problem, Program, Register, append};
-use script_places::{Emitter, EmitterMark, Handler, Sequence, Task};
+use script_code::{
+    Code, Emitter, EmitterMark, Error, ErrorClass, Handler, Meaning, Name, Problem, Program,
+    Register, Sequence, Task, append,
+};
 use script_syntax::{Statement, StatementAt, StatementKind, Tree};
 use std::alloc::Global;
 

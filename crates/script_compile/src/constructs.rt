@@ -1,8 +1,7 @@
 //! What a statement may be in, and how statements leave it.
 
 use crate::compiler::Mark;
-use script_code::{COUNT, Code, Register, Trouble, append};
-use script_places::Loop;
+use script_code::{COUNT, Code, Loop, Register, Trouble, append};
 use script_values::Call;
 use std::alloc::Global;
 

@@ -6,9 +6,9 @@ use crate::perform::perform;
 use crate::variables::{VariableChange, Variables};
 use client_code::TypeTable;
 use script_code::{
-    Code, Compiled, Error, ErrorKind, Linked, NOWHERE, Problem, Program, Trouble, Types, link,
+    Code, Compiled, Emitter, Error, ErrorKind, Linked, NOWHERE, Problem, Program, Trouble, Types,
+    link,
 };
-use script_places::Emitter;
 use script_syntax::Tree;
 use script_values::declare;
 use std::alloc::{AllocError, Global};

@@ -2,8 +2,9 @@
 
 use crate::compiler::{Compiler, Mark};
 use crate::constructs::{Construct, ConstructKind};
-use script_code::{COUNT, Code, EndedName, ErrorKind, Known, Names, Register, append};
-use script_places::{Emitter, Loop, Task, Turn};
+use script_code::{
+    COUNT, Code, Emitter, EndedName, ErrorKind, Known, Loop, Names, Register, Task, Turn, append,
+};
 use script_statements::{begin_turns, leave_loop, next_turn};
 use script_syntax::{ExpressionAt, Tree};
 use script_values::has_call;

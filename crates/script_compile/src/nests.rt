@@ -4,10 +4,9 @@
 use crate::compiler::{Begun, Compiler, Mark};
 use client_code::Operation;
 use script_code::{
-    COUNT, Code, ErrorKind, Key, Meaning, NOWHERE, Name, Names, OtherParts, Place, Register, Root,
-    Trouble, append,
+    COUNT, Code, Emitter, ErrorKind, Key, Meaning, NOWHERE, Name, Names, OtherParts, Place,
+    Register, Root, Sequence, Task, Trouble, append,
 };
-use script_places::{Emitter, Sequence, Task};
 use script_syntax::{Span, StatementAt, Tree};
 use std::alloc::Global;
 

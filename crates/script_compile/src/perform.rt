@@ -3,8 +3,7 @@
 use crate::blocks::begin_body;
 use crate::compiler::Compiler;
 use crate::nests::NestKind;
-use script_code::ErrorKind;
-use script_places::{Emitter, Task, close_noting, tell_no_room};
+use script_code::{Emitter, ErrorKind, Task, close_noting, tell_no_room};
 use script_statements::{begin, begin_method};
 use script_syntax::{ExpressionAt, ExpressionKind, StatementAt, StatementKind, Tree};
 

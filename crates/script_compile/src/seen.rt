@@ -1,7 +1,6 @@
 //! The names which were seen, for warnings of those that aren't used.
 
-use script_code::{Meaning, Name, Trouble, WarningKind, append};
-use script_places::Emitter;
+use script_code::{Emitter, Meaning, Name, Trouble, WarningKind, append};
 use script_syntax::{Span, Tree};
 use std::alloc::Global;
 

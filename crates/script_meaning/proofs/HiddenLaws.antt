@@ -5,7 +5,7 @@ use Rattle.std.specs.Prelude.{◌==◌, if◌then◌else◌, slice_index_or}
 use Rattle.std.specs.Option.{option_map_or}
 use Rattle.std.proofs.lemmas.Bool.{lt-ltb}
 use Rattle.std.proofs.lemmas.Option.{some_pair_parts}
-use Rattle.seg_spec.specs.Value.{Value, Values, nil, cons, nth, count}
+use Rattle.client_spec.specs.Value.{Value, Values, nil, cons, nth, count}
 use Rattle.client_spec.specs.Syntax.{Constant, Instruction, plain, opener, Statements, no_more, next}
 use Rattle.client_spec.specs.Syntax as syntax
 use Rattle.client_spec.specs.declared.table.Operation.TheVariants as operation
@@ -181,6 +181,47 @@ step_code c old mid new i at end t there role gives sixteen more kept set same e
     (subst (λ z. Follows c at (suc at) (knowing c old) Stays (Knows (setting_of c) z new.registers)) (ap (λ w. w.list.items) (sym same))
     (subst (λ z. Follows c at (suc at) (knowing c old) Stays (Knows (setting_of c) mid.terms.list.items z)) (sym (set ∙ ap (λ w. slice_set w i.a (Some t)) kept))
     (gives_code c old mid i at t there role gives sixteen more)))
+
+-- ---- FORGET
+
+-- FORGET leaves nothing in register b
+forget_effect : (constants : List Constant) (a b c : ℕ) (number : ℤ) (room : Bool) (s : State) → effect constants operation.Forget a b c number room s ≡ answer success b Register.Undefined s
+unfolding effect
+forget_effect constants a b c number room s = refl
+
+module _ (c : Comparison) (old : Knowledge) (i : Instruction) (at : ℕ) where
+  abbrev forgotten : Tie
+  forgotten = Knows (setting_of c) old.terms.list.items (slice_set old.registers i.b None)
+
+  forget_follows : IsAt c at i → i.operation ≡ operation.Forget → Follows c at (suc at) (knowing c old) Stays forgotten
+  forget_follows there forgets = one_code (texts_of c) (code_of c) at i (knowing c old) forgotten Stays there (record { role = ap (λ op. (row_of op).role) forgets; row = row; stop = stop })
+    where
+      does : (m : Moment) (s s' : State) (code : Answer) (room : Bool) → knowing c old m s → outcome (texts_of c) i room s ≡ Some (code, s')
+          → (code ≡ success) × forgotten m s' × (s'.output ≡ s.output)
+      does m s s' code room known e =
+          let forgot = ap (λ op. effect (texts_of c) op i.a i.b i.c i.number room s) forgets ∙ forget_effect (texts_of c) i.a i.b i.c i.number room s in
+          let h = answered success i.b Register.Undefined s code s' (sym forgot ∙ e) in (
+            h.0,
+            subst (forgotten m) (sym h.1) (knows_less (setting_of c) old.terms.list.items old.registers m s i.b Register.Undefined known),
+            ap (λ z. z.output) h.1,
+          )
+
+      row : (m : Moment) (s s' : State) (code : Answer) → knowing c old m s → (plain_machine (texts_of c)).row i s code s'
+          → (m' : Moment) × Stays m m' finished × (m'.world ≡ world_of s') × forgotten m' s'
+      row m s s' code known (inl w) = let h = (does m s s' code w.0 known w.1).1.0 in (m, (refl, refl), sym h.world, h)
+      row m s s' code known (inr w) = absurd (let h = (does m s w.refused bad_alloc false known w.row).0 in cc)
+
+      stop : (m : Moment) (s s' : State) → knowing c old m s → (plain_machine (texts_of c)).stop i s s' → (m' : Moment) × Stays m m' stopped × (m'.world ≡ world_of s')
+      stop m s s' known cut = absurd (not_cut s cut.whole.output cut.front cut.lost (does m s cut.whole success cut.room known cut.written).1.1 cut.bytes cut.proper)
+
+-- one FORGET
+pub forget_code : (c : Comparison) (old new : Knowledge) (i : Instruction) (at end : ℕ) → IsAt c at i → i.operation ≡ operation.Forget
+    → new.registers ≡ slice_set old.registers i.b None → new.terms ≡ old.terms → end ≡ at + 1 → Follows c at end (knowing c old) Stays (knowing c new)
+forget_code c old new i at end there forgets set same ends =
+    subst (λ z. Follows c at z (knowing c old) Stays (knowing c new)) (sym (ends ∙ add-one at))
+    (subst (λ z. Follows c at (suc at) (knowing c old) Stays (Knows (setting_of c) z new.registers)) (ap (λ w. w.list.items) (sym same))
+    (subst (λ z. Follows c at (suc at) (knowing c old) Stays (Knows (setting_of c) old.terms.list.items z)) (sym set)
+    (forget_follows c old i at there forgets)))
 
 -- ---- the lookup of an object's number
 

@@ -3,7 +3,7 @@ use Rattle.std.proofs.Common.{◌≡◌, ◌≢◌, ℕ, zero, suc, ◌<◌, ℤ
 use Rattle.std.specs.Prelude.{nat_lt, ◌==◌, if◌then◌else◌, slice_index_or}
 use Rattle.std.specs.Option.{option_map_or}
 use Rattle.std.proofs.lemmas.List.{get_or-set_same, get_or-set_other}
-use Rattle.seg_spec.specs.Value.{Value, Int, Values, nil, cons, nth, count, copies, default_of, value_at, with_value_at}
+use Rattle.client_spec.specs.Value.{Value, Int, Values, nil, cons, nth, count, copies, default_of, value_at, with_value_at}
 use Rattle.client_spec.specs.Syntax.{Constant, Instruction}
 use Rattle.client_spec.specs.Syntax as syntax
 use Rattle.client_spec.specs.declared.table.Operation.{Operation}

@@ -3,7 +3,7 @@ use Rattle.std.proofs.Common.{◌≡◌, ℕ, zero, suc, ◌+◌, ◌<◌, ℤ, 
 use Rattle.std.proofs.lemmas.Option.{slice_get_within, get_or_from_slice_get}
 use Rattle.std.specs.Prelude.{Option, Some, None, IfSome, Bool, true, false, not, ◌&&◌, ◌||◌}
 use Rattle.std.specs.Int.{w64, int_wrapping_add, int_wrapping_mul}
-use Rattle.seg_spec.specs.Value.{same_int}
+use Rattle.client_spec.specs.Value.{same_int}
 use Rattle.client_spec.specs.Effect.{truth}
 use Rattle.script_meaning.specs.declared.terms.Computation.{Computation}
 use Rattle.script_meaning.specs.declared.terms.Computation.TheVariants as computation

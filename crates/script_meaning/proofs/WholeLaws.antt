@@ -2,7 +2,7 @@
 use Rattle.std.proofs.Common.{◌≡◌, ◌≢◌, ℕ, List, [], ◌∷◌, ◌++◌, length, drop, map, None, Some, slice_get, ◌⊎◌, inl, inr, refl, sym, ◌∙◌, ap, subst, arith}
 use Rattle.std.specs.Prelude.{⊤}
 use Rattle.std.proofs.lemmas.List.{append-nil, length-map}
-use Rattle.seg_spec.specs.Types.{Form, form_at}
+use Rattle.client_spec.specs.Types.{Form, form_at}
 use Rattle.client_spec.specs.Syntax.{Client, Statements}
 use Rattle.client_spec.specs.Machine.{State}
 use Rattle.client_spec.specs.Run.{Ending, stuck, Run}

@@ -4,7 +4,7 @@
 --     Simulates P does way Q               each run of the way does this, from P to Q
 --     IsCodeFor .. at end P does Q         the instructions from `at` to before `end` do this
 use Rattle.std.specs.Prelude.{⊤, ◌≡◌, ◌≢◌, ℕ, ◌<◌, ℤ, pos, List, [], ◌∷◌, ◌++◌, length, map, drop, Option, Some, None, slice_get, slice_index_or, ◌⊎◌}
-use Rattle.seg_spec.specs.Types.{Form, form_at}
+use Rattle.client_spec.specs.Types.{Form, form_at}
 use Rattle.client_spec.specs.Syntax.{Constant, Instruction, Statement, plain, opener, loop, Statements, no_more, next, Client}
 use Rattle.client_spec.specs.declared.table.Role.{Role}
 use Rattle.client_spec.specs.Operations.{row_of}

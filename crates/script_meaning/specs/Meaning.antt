@@ -6,8 +6,8 @@ use Rattle.std.specs.Prelude.{◌≡◌, ◌≢◌, ℕ, zero, suc, ◌<◌, ℤ
 use Rattle.std.specs.Int.{w64, int_wrapping_add, int_wrapping_sub, int_wrapping_mul}
 use Rattle.std.specs.Fmt.{signed_decimal}
 use Rattle.std.specs.Option.{option_map_or}
-use Rattle.seg_spec.specs.Types.{Table}
-use Rattle.seg_spec.specs.Value.{Int, nth, copies, default_of, same_int}
+use Rattle.client_spec.specs.Types.{Table}
+use Rattle.client_spec.specs.Value.{Int, nth, copies, default_of, same_int}
 use Rattle.client_spec.specs.Machine.{◌>>=◌, Object, Names, Uniques, State, with_name, replace_item}
 use Rattle.client_spec.specs.Answer.{int_in}
 use Rattle.client_spec.specs.Effect.{truth}

@@ -9,10 +9,11 @@ use script_syntax::{
     ExpressionKind, Item, Range, SetOperator, Span, Statement, StatementKind, Tree, Type,
     UnaryOperator, Value, ValueKind,
 };
-use std::alloc::{AllocError, AllocFailed, Global};
+use std::alloc::{AllocError, Global};
 use std::mem;
 
-/// How deep statements and expressions of the core may be in each other. Each statement is in the one before it.
+/// How deep statements and expressions of the core may be in each other. A statement counts for those that follow it too, since
+/// they are a part of it.
 const MOST_DEPTH: usize = 1_000;
 
 /// Why a program has no core.
@@ -29,14 +30,6 @@ enum Beyond {
 struct Local {
     name: Span,
     number: usize,
-}
-
-/// What is printed next.
-#[derive(Drop)]
-enum Piece {
-    Text(Vec<u8>),
-    /// A number, with the end of the line.
-    Line(Number),
 }
 
 /// What an item prints: bytes that are known, or a number.
@@ -62,12 +55,6 @@ struct Reader<'a> {
 
 impl From<AllocError> for Beyond {
     fn from(_: AllocError) -> Beyond {
-        Beyond::Memory
-    }
-}
-
-impl<T: Drop> From<AllocFailed<T>> for Beyond {
-    fn from(_: AllocFailed<T>) -> Beyond {
         Beyond::Memory
     }
 }
@@ -101,73 +88,81 @@ impl<'a> Reader<'a> {
             return Err(Beyond::Core);
         }
         let outer = self.locals.len();
-        let code = self.sequence(self.tree.statements(block.statements), deeper(depth)?)?;
+        let code = self.sequence(self.tree.statements(block.statements), depth)?;
         self.locals.truncate(outer);
         Ok(code)
     }
 
+    /// Statements, one after the other.
     #[cycle(core)]
     fn sequence(&mut self, statements: &[Statement], depth: usize) -> Result<Code, Beyond> {
-        let Some((first, rest)) = statements.split_first() else {
-            return Ok(Code::End);
-        };
         let depth = deeper(depth)?;
-        match first.kind {
-            StatementKind::Let { name, value } => self.set_new(first, name, &value, rest, depth),
+        let mut parts = Vec::new(self.alloc);
+        for statement in statements {
+            self.statement(statement, depth, &mut parts)?;
+        }
+        if parts.len() > depth {
+            return Err(Beyond::Core);
+        }
+        Ok(joined(parts))
+    }
+
+    /// Adds what a statement does to `parts`, which are before it.
+    #[cycle(core)]
+    fn statement(
+        &mut self,
+        statement: &Statement,
+        depth: usize,
+        parts: &mut Vec<Code>,
+    ) -> Result<(), Beyond> {
+        let depth = depth.checked_sub(parts.len()).ok_or(Beyond::Core)?;
+        let part = match statement.kind {
+            StatementKind::Let { name, value } => self.set_new(statement, name, &value)?,
             StatementKind::Set {
                 place,
                 operator,
                 items,
                 max: None,
                 ..
-            } => self.set(first, place, operator, items, rest, depth),
-            StatementKind::If(condition) => self.branch(first, condition, rest, depth),
-            StatementKind::IfLet { name, value } => { self.find(first, name, &value, rest, depth) }
+            } => self.set(statement, place, operator, items, depth)?,
+            StatementKind::If(condition) => self.branch(statement, condition, depth)?,
+            StatementKind::IfLet { name, value } => self.find(statement, name, &value, depth)?,
             StatementKind::While { condition, max } => {
-                self.repeat(first, condition, max, rest, depth)
+                self.repeat(statement, condition, max, depth)?
             }
             StatementKind::Print {
                 items,
                 max: None,
                 ends_line,
-            } => self.print(items, ends_line, rest, depth),
-            StatementKind::Delete(place) => {
-                let object = self.object(place)?;
-                Ok(Code::Delete(object, self.rest(rest, depth)?))
-            }
-            _ => Err(Beyond::Core),
-        }
-    }
-
-    #[cycle(core)]
-    fn rest(&mut self, rest: &[Statement], depth: usize) -> Result<Box<Code>, Beyond> {
-        let code = self.sequence(rest, deeper(depth)?)?;
-        Ok(Box::new(self.alloc, code)?)
+            } => return self.print(self.tree.items(items), ends_line, parts),
+            StatementKind::Delete(place) => Code::Delete(self.object(place)?, self.nothing()?),
+            _ => return Err(Beyond::Core),
+        };
+        Ok(parts.push(part)?)
     }
 
     /// The statements of a statement's block.
     #[cycle(core)]
     fn body(&mut self, statement: &Statement, depth: usize) -> Result<Box<Code>, Beyond> {
         let block = statement.body.ok_or(Beyond::Core)?;
-        let code = self.block(block, deeper(depth)?)?;
-        Ok(Box::new(self.alloc, code)?)
+        let code = self.block(block, depth)?;
+        self.boxed(code)
     }
 
     /// The statements of an `else`, or none without one.
     #[cycle(core)]
     fn otherwise(&mut self, part: Option<ElsePart>, depth: usize) -> Result<Box<Code>, Beyond> {
         let code = match part {
-            Some(ElsePart { code: None, block }) => self.block(block, deeper(depth)?)?,
+            Some(ElsePart { code: None, block }) => self.block(block, depth)?,
             Some(_) => return Err(Beyond::Core),
             None => Code::End,
         };
-        Ok(Box::new(self.alloc, code)?)
+        self.boxed(code)
     }
 
     /// The statements of an `else`, or of `fail` if there is no `else`.
     #[cycle(core)]
     fn on_failure(&mut self, part: Option<ElsePart>, depth: usize) -> Result<Box<Code>, Beyond> {
-        let depth = deeper(depth)?;
         let Some(block) = fail_part(self.tree) else {
             return self.otherwise(part, depth);
         };
@@ -177,24 +172,20 @@ impl<'a> Reader<'a> {
         let visible = mem::replace(&mut self.visible, self.locals.len());
         let code = self.block(block, depth)?;
         self.visible = visible;
-        Ok(Box::new(self.alloc, code)?)
+        self.boxed(code)
     }
 
-    #[cycle(core)]
     fn set_new(
         &mut self,
         statement: &Statement,
         name: Span,
         value: &Value,
-        rest: &[Statement],
-        depth: usize,
     ) -> Result<Code, Beyond> {
         if statement.body.is_some() || statement.otherwise.is_some() {
             return Err(Beyond::Core);
         }
         let number = self.value(value)?;
-        let variable = self.bind(name)?;
-        Ok(Code::Set(variable, number, self.rest(rest, depth)?))
+        Ok(Code::Set(self.bind(name)?, number, self.nothing()?))
     }
 
     #[cycle(core)]
@@ -204,18 +195,17 @@ impl<'a> Reader<'a> {
         place: ExpressionAt,
         operator: SetOperator,
         items: Range,
-        rest: &[Statement],
         depth: usize,
     ) -> Result<Code, Beyond> {
         let number = self.only_item(items)?;
         let operator = operator_of_set(operator)?;
         if let Some(variable) = self.variable(place) {
             let number = self.changed(variable, operator, number)?;
-            return Ok(Code::Set(variable, number, self.rest(rest, depth)?));
+            return Ok(Code::Set(variable, number, self.nothing()?));
         }
         let object = self.object(place)?;
         let otherwise = self.on_failure(statement.otherwise, depth)?;
-        let rest = self.rest(rest, depth)?;
+        let rest = self.nothing()?;
         Ok(match operator {
             Some(operator) => Code::Change(object, operator, number, otherwise, rest),
             None => Code::Store(object, number, otherwise, rest),
@@ -240,13 +230,12 @@ impl<'a> Reader<'a> {
         &mut self,
         statement: &Statement,
         condition: ExpressionAt,
-        rest: &[Statement],
         depth: usize,
     ) -> Result<Code, Beyond> {
         let number = self.number(condition, MOST_DEPTH)?;
         let on_true = self.body(statement, depth)?;
         let on_false = self.otherwise(statement.otherwise, depth)?;
-        Ok(Code::If(number, on_true, on_false, self.rest(rest, depth)?))
+        Ok(Code::If(number, on_true, on_false, self.nothing()?))
     }
 
     #[cycle(core)]
@@ -255,7 +244,6 @@ impl<'a> Reader<'a> {
         statement: &Statement,
         name: Span,
         value: &Value,
-        rest: &[Statement],
         depth: usize,
     ) -> Result<Code, Beyond> {
         let ValueKind::Expression(place) = value.kind else {
@@ -267,7 +255,7 @@ impl<'a> Reader<'a> {
         let on_found = self.body(statement, depth)?;
         self.locals.truncate(outer);
         let on_absent = self.otherwise(statement.otherwise, depth)?;
-        let rest = self.rest(rest, depth)?;
+        let rest = self.nothing()?;
         Ok(Code::IfObject(variable, object, on_found, on_absent, rest))
     }
 
@@ -277,7 +265,6 @@ impl<'a> Reader<'a> {
         statement: &Statement,
         condition: ExpressionAt,
         max: Option<ExpressionAt>,
-        rest: &[Statement],
         depth: usize,
     ) -> Result<Code, Beyond> {
         let max = self.number(max.ok_or(Beyond::Core)?, MOST_DEPTH)?;
@@ -285,42 +272,33 @@ impl<'a> Reader<'a> {
         let turns = turns.ok_or(Beyond::Core)?;
         let number = self.number(condition, MOST_DEPTH)?;
         let body = self.body(statement, depth)?;
+        let rest = self.nothing()?;
         if statement.otherwise.is_none() {
-            return Ok(Code::While(number, turns, body, self.rest(rest, depth)?));
+            return Ok(Code::While(number, turns, body, rest));
         }
         let on_cut = self.otherwise(statement.otherwise, depth)?;
-        let rest = self.rest(rest, depth)?;
         Ok(Code::WhileElse(number, turns, body, on_cut, rest))
     }
 
-    #[cycle(core)]
-    fn print(
-        &mut self,
-        items: Range,
-        ends_line: bool,
-        rest: &[Statement],
-        depth: usize,
-    ) -> Result<Code, Beyond> {
-        let mut pieces = self.pieces(self.tree.items(items), ends_line)?;
-        let mut code = self.sequence(rest, deeper(depth)?)?;
-        for _ in 0..pieces.len() {
-            let Some(piece) = pieces.pop() else {
-                return Ok(code);
-            };
-            let rest = Box::new(self.alloc, code)?;
-            code = match piece {
-                Piece::Text(bytes) => Code::Print(bytes, rest),
-                Piece::Line(number) => Code::PrintLine(number, rest),
-            };
-        }
-        Ok(code)
+    /// Code in a box.
+    fn boxed(&self, code: Code) -> Result<Box<Code>, Beyond> {
+        Box::new(self.alloc, code).map_err(|_| Beyond::Memory)
+    }
+
+    /// No statements.
+    fn nothing(&self) -> Result<Box<Code>, Beyond> {
+        self.boxed(Code::End)
     }
 
     // What is printed
 
-    /// What these items print. The end of a line that a number brings isn't printed again.
-    fn pieces(&mut self, items: &[Item], ends_line: bool) -> Result<Vec<Piece>, Beyond> {
-        let mut pieces = Vec::new(self.alloc);
+    /// Adds what prints these items to `parts`. The end of a line that a number brings isn't printed again.
+    fn print(
+        &mut self,
+        items: &[Item],
+        ends_line: bool,
+        parts: &mut Vec<Code>,
+    ) -> Result<(), Beyond> {
         let mut text = Vec::new(self.alloc);
         let mut is_ended = false;
         for item in items {
@@ -339,8 +317,8 @@ impl<'a> Reader<'a> {
                 Printed::Number(_) if is_ended => return Err(Beyond::Core),
                 Printed::Number(number) => {
                     let before = mem::replace(&mut text, Vec::new(self.alloc));
-                    push_text(&mut pieces, before)?;
-                    pieces.push(Piece::Line(number))?;
+                    self.print_text(before, parts)?;
+                    parts.push(Code::PrintLine(number, self.nothing()?))?;
                     is_ended = true;
                 }
             }
@@ -350,8 +328,15 @@ impl<'a> Reader<'a> {
             (false, true) => return Err(Beyond::Core),
             _ => {}
         }
-        push_text(&mut pieces, text)?;
-        Ok(pieces)
+        self.print_text(text, parts)
+    }
+
+    /// Adds what prints a text to `parts`, unless it is empty.
+    fn print_text(&self, text: Vec<u8>, parts: &mut Vec<Code>) -> Result<(), Beyond> {
+        if !text.is_empty() {
+            parts.push(Code::Print(text, self.nothing()?))?;
+        }
+        Ok(())
     }
 
     /// What an item prints.
@@ -512,12 +497,13 @@ impl<'a> Reader<'a> {
     }
 }
 
-/// Adds a text, unless it is empty.
-fn push_text(pieces: &mut Vec<Piece>, text: Vec<u8>) -> Result<(), Beyond> {
-    if !text.is_empty() {
-        pieces.push(Piece::Text(text))?;
+/// Statements one after the other. Each of them ends with no statements.
+fn joined(parts: Vec<Code>) -> Code {
+    let mut code = Code::End;
+    for part in parts.into_iter().rev() {
+        code = part.then(code);
     }
-    Ok(())
+    code
 }
 
 /// One level deeper.

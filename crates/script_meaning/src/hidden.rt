@@ -40,12 +40,28 @@ impl Comparison<'_> {
         ensures extends { Extends knowledge.old.terms.list.items knowledge.new.terms.list.items }
     {
         let instruction = self.instruction(at)?;
-        if instruction.operation == Operation::Find {
-            return self.lookup(knowledge, instruction, at);
+        match instruction.operation {
+            Operation::Find => return self.lookup(knowledge, instruction, at),
+            Operation::Forget => return self.forget(knowledge, instruction, at),
+            _ => {}
         }
         let term = term_of(knowledge, instruction)?;
         let after = at.checked_add(1)?;
         knowledge.set(instruction.a, Some(term));
+        Some(after)
+    }
+
+    /// The position after a `FORGET`. Nothing is known of its register.
+    fn forget(&self, knowledge: &mut Knowledge, forget: Instruction, at: usize) -> Option<usize>
+        ensures some { IsAt self.now at (instruction_of forget)
+            → forget.operation ≡ operation.Forget → IfSome result (λ after. Follows self.now at after
+            (knowing self.now knowledge.old) Stays (knowing self.now knowledge.new)) }
+        ensures none { result ≡ None → (m : Moment) (s : State)
+            → knowing self.now knowledge.old m s → knowing self.now knowledge.new m s }
+        ensures extends { Extends knowledge.old.terms.list.items knowledge.new.terms.list.items }
+    {
+        let after = at.checked_add(1)?;
+        knowledge.set(forget.b, None);
         Some(after)
     }
 

@@ -1,6 +1,6 @@
 //! Whether a client has the meaning of a program.
 ghost use Rattle.std.specs.Prelude.{◌≡◌, ◌≢◌, [], Ok, Some, true, map, IfOk, IfSome};
-ghost use Rattle.seg_spec.specs.Types.{Form, form_at};
+ghost use Rattle.client_spec.specs.Types.{Form, form_at};
 ghost use Rattle.client_spec.specs.Grammar.{listing};
 ghost use Rattle.client_code.specs.Views.{instruction_of};
 ghost use Rattle.client_code.specs.Clients.{OfTree, bytes_of};

@@ -84,6 +84,28 @@ impl Operator {
     }
 }
 
+impl Code {
+    /// This statement, and then these statements in place of those that follow it.
+    pub(crate) fn then(self, after: Code) -> Code {
+        let mut code = self;
+        let rest = match &mut code {
+            Code::End => return after,
+            Code::Set(_, _, rest)
+            | Code::Print(_, rest)
+            | Code::PrintLine(_, rest)
+            | Code::If(_, _, _, rest)
+            | Code::While(_, _, _, rest)
+            | Code::WhileElse(_, _, _, _, rest)
+            | Code::Store(_, _, _, rest)
+            | Code::Change(_, _, _, _, rest)
+            | Code::IfObject(_, _, _, _, rest)
+            | Code::Delete(_, rest) => rest,
+        };
+        **rest = after;
+        code
+    }
+}
+
 impl Number {
     /// The number, if it is the same at every moment.
     pub fn known(&self) -> Option<i64>

@@ -4,7 +4,7 @@ ghost use Rattle.script_meaning.specs.Meaning.{Moment, Setting, value, or_else, 
 ghost use Rattle.script_meaning.specs.Following.{Extends, HasValue, operator_of};
 ghost use Rattle.script_meaning.specs.declared.terms.Term.TheVariants as term;
 ghost use Rattle.client_spec.specs.Effect.{truth};
-ghost use Rattle.seg_spec.specs.Value.{same_int};
+ghost use Rattle.client_spec.specs.Value.{same_int};
 
 use crate::program::{Number, Operator};
 use arrayvec::ArrayVec;

@@ -1,6 +1,6 @@
 //! `if`.
 
-use script_places::{Emitter, Task};
+use script_code::{Emitter, Task};
 use script_syntax::{ExpressionAt, StatementAt, Tree};
 
 pub fn begin_if(emitter: &mut Emitter, statement: StatementAt, condition: ExpressionAt) {

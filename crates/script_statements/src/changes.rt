@@ -3,10 +3,9 @@
 use crate::lookups::is_variable;
 use client_code::Operation;
 use script_code::{
-    About, Code, Error, ErrorKind, Meaning, Names, Place, Program, Register, Root, Shape, TypeAt,
-    WayKind,
+    About, Code, Emitter, Error, ErrorKind, Handler, Meaning, Names, Place, Program, Register,
+    Removed, Root, Shape, Task, TypeAt, Value, WayKind, close_noting, last_way, plain_name,
 };
-use script_places::{Emitter, Handler, Removed, Task, Value, close_noting, last_way, plain_name};
 use script_syntax::{
     BinaryOperator, Container, ExpressionAt, Item, Range, SetOperator, Span, Statement,
     StatementAt, StatementKind, Tree, ValueKind,

@@ -3,12 +3,10 @@
 use crate::methods::begin_method;
 use client_code::Operation;
 use script_code::{
-    About, Code, ErrorKind, Known, MOST_DIGITS, Meaning, NOWHERE, Names, Operand, Place, Program,
-    Register, Root, Shape, TypeAt, Way, WayKind,
-};
-use script_places::{
-    Emitter, Handler, Removed, Task, Walk, close_noting, close_walk, is_method, is_number,
-    last_way, near_struct, own_handler, plain_name, read_number, steps_of,
+    About, Code, Emitter, ErrorKind, Handler, Known, MOST_DIGITS, Meaning, NOWHERE, Names, Operand,
+    Place, Program, Register, Removed, Root, Shape, Task, TypeAt, Walk, Way, WayKind, close_noting,
+    close_walk, is_method, is_number, last_way, near_struct, own_handler, plain_name, read_number,
+    steps_of,
 };
 use script_syntax::{
     Block, Container, ExpressionAt, Held, Range, Span, Statement, StatementAt, StatementKind, Tree,

@@ -3,10 +3,9 @@
 use crate::lookups::{bind_place, bind_walk, body_of};
 use client_code::Operation;
 use script_code::{
-    Code, ErrorKind, Key, Known, MOST_DIGITS, Meaning, Operand, Place, Register, Shape, TypeAt,
-    WayKind,
+    Code, Emitter, End, ErrorKind, Handler, Key, Known, Loop, MOST_DIGITS, Meaning, Operand, Place,
+    Register, Shape, Task, Turn, TypeAt, WayKind, close_walk, decimal_digits,
 };
-use script_places::{Emitter, End, Handler, Loop, Task, Turn, close_walk, decimal_digits};
 use script_syntax::{
     Block, ExpressionAt, Source, Span, Statement, StatementAt, StatementKind, Tree,
 };

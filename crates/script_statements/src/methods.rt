@@ -1,8 +1,10 @@
 //! Pushes and pops.
 
 use client_code::Operation;
-use script_code::{Code, ErrorKind, Known, Operand, Place, Program, Register, Shape, TypeAt};
-use script_places::{Emitter, Handler, Removed, Task, Walk, last_step, own_handler};
+use script_code::{
+    Code, Emitter, ErrorKind, Handler, Known, Operand, Place, Program, Register, Removed, Shape,
+    Task, TypeAt, Walk, last_step, own_handler,
+};
 use script_syntax::{
     Container, ExpressionAt, Range, Span, Statement, StatementAt, StatementKind, StepKind, Tree,
 };

@@ -6,9 +6,9 @@ use crate::lookups::{
 use crate::methods::{Method, hold_pushed, method_at, method_place, open_push};
 use client_code::Operation;
 use script_code::{
-    Code, ErrorKind, Key, Known, MOST_DIGITS, Meaning, Operand, Place, Register, TypeAt, WayKind,
+    Code, Emitter, ErrorKind, Handler, Key, Known, MOST_DIGITS, Meaning, Operand, Place, Register,
+    Removed, Task, TypeAt, Walk, WayKind, close_noting,
 };
-use script_places::{Emitter, Handler, Removed, Task, Walk, close_noting};
 use script_syntax::{Span, Statement, StatementAt, Tree, ValueKind};
 
 /// The code of an item that isn't there.

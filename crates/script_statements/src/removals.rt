@@ -2,12 +2,9 @@
 
 use client_code::Operation;
 use script_code::{
-    Class, Code, ErrorKind, Key, Known, NONE, Object, ObjectKind, Operand, Place, Register, Root,
-    Shape, TypeAt,
-};
-use script_places::{
-    Emitter, Removed, Task, close_walk, free_key, key_register, kind_of, last_step, steps_of,
-    use_object,
+    Class, Code, Emitter, ErrorKind, Key, Known, NONE, Object, ObjectKind, Operand, Place,
+    Register, Removed, Root, Shape, Task, TypeAt, close_walk, free_key, key_register, kind_of,
+    last_step, steps_of, use_object,
 };
 use script_syntax::{
     Container, ExpressionAt, Span, StatementAt, StatementKind, Step, StepKind, Tree,

@@ -10,8 +10,7 @@ use crate::loops::{begin_for, begin_while, end_input, loop_items, loop_numbers};
 use crate::methods::do_method;
 use crate::pushes::{pop_named, push_named};
 use crate::removals::{begin_delete, clear, delete_key, delete_whole, shrink};
-use script_code::Meaning;
-use script_places::{Emitter, Output, Task};
+use script_code::{Emitter, Meaning, Output, Task};
 use script_syntax::{StatementAt, StatementKind, Tree};
 
 /// Does a task of a single statement. Returns false for any other task.

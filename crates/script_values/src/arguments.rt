@@ -1,7 +1,9 @@
 //! Calls of functions: arguments and parameters.
 
-use script_code::{About, COUNT, Code, ErrorKind, Function, Meaning, Register, TypeAt};
-use script_places::{Emitter, Task, near_function, plain_name, steps_of};
+use script_code::{
+    About, COUNT, Code, Emitter, ErrorKind, Function, Meaning, Register, Task, TypeAt,
+    near_function, plain_name, steps_of,
+};
 use script_syntax::{Block, Expression, ExpressionAt, ExpressionKind, Field, Range, Span, Tree};
 
 /// The call of a function that is being compiled.

@@ -1,10 +1,9 @@
 //! Declarations: constants, structs, objects, functions and the `fail` part.
 
 use script_code::{
-    About, Code, Error, ErrorKind, Function, Member, NamedValue, Object, ObjectKind, Problem,
-    Program, Shape, StructAt, StructType, TypeAt, append,
+    About, Code, Emitter, Error, ErrorKind, Function, Member, NamedValue, Object, ObjectKind,
+    Problem, Program, Shape, StructAt, StructType, TypeAt, append, constant_kind, near_struct,
 };
-use script_places::{Emitter, constant_kind, near_struct};
 use script_syntax::{
     Block, Declaration, DeclarationKind, ExpressionAt, Range, Span, Statement, StatementKind, Tree,
     Type,

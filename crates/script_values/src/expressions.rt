@@ -2,11 +2,9 @@
 
 use client_code::Operation;
 use script_code::{
-    Code, ErrorClass, ErrorKind, Folded, Known, MOST_DIGITS, Meaning, Names, ObjectKind, Operand,
-    Place, Program, Register, Root, Trouble, TypeAt, append,
-};
-use script_places::{
-    Emitter, Task, close_walk, compute, decimal_digits, is_number, kind_of, plain_name,
+    Code, Emitter, ErrorClass, ErrorKind, Folded, Known, MOST_DIGITS, Meaning, Names, ObjectKind,
+    Operand, Place, Program, Register, Root, Task, Trouble, TypeAt, append, close_walk, compute,
+    decimal_digits, is_number, kind_of, plain_name,
 };
 use script_syntax::{
     BinaryOperator, Expression, ExpressionAt, ExpressionKind, Range, Span, StepKind, Tree,

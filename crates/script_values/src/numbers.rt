@@ -1,8 +1,7 @@
 //! Division, and numbers in decimal. The machine has neither.
 
 use client_code::{ConstantKind, Operation};
-use script_code::{Code, Known, MOST_DIGITS, Operand, Register};
-use script_places::{Emitter, Output, TextTarget};
+use script_code::{Code, Emitter, Known, MOST_DIGITS, Operand, Output, Register, TextTarget};
 use script_syntax::BinaryOperator;
 
 /// The registers of a division.

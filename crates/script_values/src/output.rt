@@ -4,9 +4,9 @@ use crate::expressions::{digits_of, is_positive, open_byte, text_of};
 use crate::numbers::{add_byte, add_bytes, write_digits};
 use client_code::{LONGEST, Operation};
 use script_code::{
-    Code, ErrorKind, Folded, Place, Register, TypeAt, WarningKind, Way, append_bytes,
+    Code, Emitter, ErrorKind, Folded, Handler, Output, Place, Register, Task, TextTarget, TypeAt,
+    Walk, WarningKind, Way, append_bytes, close_noting, close_walk,
 };
-use script_places::{Emitter, Handler, Output, Task, TextTarget, Walk, close_noting, close_walk};
 use script_syntax::{
     ExpressionAt, Item, Range, SetOperator, StatementAt, StatementKind, Tree, ValueKind,
 };

@@ -1,7 +1,6 @@
 //! What follows a call that may stop the program.
 
-use script_code::{COUNT, Code, Known, Register, Trouble};
-use script_places::{Emitter, PartEnd, Task};
+use script_code::{COUNT, Code, Emitter, Known, PartEnd, Register, Task, Trouble};
 
 /// The rest of the innermost part, and what follows that part in the statement, runs only if
 /// a register isn't 0.

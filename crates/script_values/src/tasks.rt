@@ -8,7 +8,7 @@ use crate::output::{
     begin_text, copy_text, end_text, write_items, write_line, write_number, write_text,
 };
 use crate::rest::{end_rest, guard_rest};
-use script_places::{Emitter, Task};
+use script_code::{Emitter, Task};
 use script_syntax::Tree;
 
 /// Does a task of numbers or texts. Returns false for any other task.

@@ -4,3 +4,5 @@ pub mod Entries
 pub mod Pointers
 pub mod Search
 pub mod Contents
+pub mod Names
+pub mod NameEntries

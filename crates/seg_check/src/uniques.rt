@@ -4,8 +4,7 @@ ghost use Rattle.seg_check.specs.Roots.{StepsUniques};
 use crate::claims::Claims;
 use crate::fault::ContentFault;
 use crate::image::TypedImage;
-use seg_cells::Content;
-use seg_entry::{unique_in, unique_word};
+use seg_cells::{Content, unique_in, unique_word};
 use seg_layout::{MAX_TYPES, TypeId};
 use std::alloc::Allocator;
 

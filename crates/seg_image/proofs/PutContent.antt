@@ -19,7 +19,7 @@ use Rattle.seg_spec.proofs.Frozen.FrozenBlockLaws.{hold_kept, frozen_twice, froz
 use Rattle.seg_spec.proofs.Heap.RequestLaws.{counts_one}
 use Rattle.seg_spec.proofs.Values.CallPlaceLaws.{each_live_at, live_at, stands_still, still_home}
 use Rattle.seg_value.specs.Contents.{GivesBlock}
-use Rattle.seg_cells.specs.Places.{object_at}
+use Rattle.seg_value.specs.CellPlaces.{object_at}
 use Rattle.seg_value.specs.Places.{SetsOwn}
 use Rattle.seg_image.specs.Owners.{PutsNew}
 

@@ -16,8 +16,8 @@ use Rattle.seg_spec.specs.Sound.{Picture}
 use Rattle.seg_spec.specs.Reads as places
 use Rattle.seg_spec.specs.Types.{form_at}
 use Rattle.seg_spec.specs.Value.{Values, count}
-use Rattle.seg_cells.specs.declared.place.Place.{Place}
-use Rattle.seg_cells.specs.Places.{place_of}
+use Rattle.seg_value.specs.Place.{Place}
+use Rattle.seg_value.specs.CellPlaces.{place_of}
 use Rattle.seg_value.specs.Stored.{Stored}
 use Rattle.seg_seq.specs.Lists.{HasList}
 use Rattle.seg_seq.specs.Sequences.{HasItems, ShowsItem}

@@ -17,5 +17,5 @@ pub use Rattle.seg_seq.specs.Lists
 pub use Rattle.seg_map.specs.Maps
 pub use Rattle.seg_map.specs.EitherMap
 pub use Rattle.seg_layout.specs.Forms
-pub use Rattle.seg_cells.specs.declared.place.Place
-pub use Rattle.seg_cells.specs.Places as CellPlaces
+pub use Rattle.seg_value.specs.Place
+pub use Rattle.seg_value.specs.CellPlaces as CellPlaces

@@ -21,7 +21,7 @@ use Rattle.seg_spec.specs.Sound.{SameBlocks}
 use Rattle.seg_spec.specs.Demand.{after_asks, after_gives}
 use Rattle.seg_spec.specs.Destroying.{HoldFrozen, KeepFrozen}
 use Rattle.seg_spec.specs.Frozen.{Frozen, blocks_by}
-use Rattle.seg_cells.specs.declared.place.Place as places
+use Rattle.seg_value.specs.Place as places
 use Rattle.seg_spec.specs.Sharing.{FreezesParts}
 use Rattle.seg_manager.specs.Segments.{one_value}
 

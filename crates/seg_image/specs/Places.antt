@@ -22,8 +22,8 @@ use Rattle.seg_spec.specs.Frozen.{frozen_words}
 use Rattle.seg_raw.specs.declared.code.Code.{Code}
 use Rattle.seg_raw.specs.declared.code.Code.TheVariants as code
 use Rattle.seg_manager.specs.declared.names.Found.{Found}
-use Rattle.seg_cells.specs.declared.place.Place.{Place}
-use Rattle.seg_cells.specs.Places.{place_of}
+use Rattle.seg_value.specs.Place.{Place}
+use Rattle.seg_value.specs.CellPlaces.{place_of}
 use Rattle.seg_value.specs.Stored.{Stored}
 use Rattle.seg_map.specs.EitherMap.{WhereMaps}
 use Rattle.seg_image.specs.declared.image.Image.{Image}

@@ -6,7 +6,7 @@ ghost use Rattle.std.specs.Iterator.{at_most};
 ghost use Rattle.std.specs.Option.{option_map};
 ghost use Rattle.seg_spec.specs.Sound.{Picture};
 ghost use Rattle.seg_spec.specs.Value.{Values, count};
-ghost use Rattle.seg_cells.specs.Places.{place_of};
+ghost use Rattle.seg_value.specs.CellPlaces.{place_of};
 ghost use Rattle.seg_seq.specs.Lists.{HasList};
 ghost use Rattle.seg_seq.specs.Sequences.{HasItems, ShowsItem};
 ghost use Rattle.seg_manager.specs.NamedObjects.{DescribesRoot};

@@ -1,7 +1,7 @@
 ghost use Rattle.std.specs.Prelude.{◌≡◌, ℕ, ℤ, List, true, false, Err, IfOk, IsOkUnless};
 ghost use Rattle.seg_spec.specs.Items.{key_place};
 ghost use Rattle.seg_spec.specs.Types.{form_at};
-ghost use Rattle.seg_cells.specs.Places.{place_of};
+ghost use Rattle.seg_value.specs.CellPlaces.{place_of};
 ghost use Rattle.seg_map.specs.EitherMap.{has_keys, IsMapOf, key_asks, KeepsTreePaths, KeepsKeysBut};
 ghost use Rattle.seg_map.specs.Maps.{PutsKey, RemovesKey};
 ghost use Rattle.seg_image.specs.Images.{segment_of, allocator_of, bytes_in, types_of, ChangesBytes};

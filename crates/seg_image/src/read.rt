@@ -9,7 +9,7 @@ ghost use Rattle.seg_spec.specs.Reads.{count_at, start};
 ghost use Rattle.seg_spec.specs.Sound.{Picture};
 ghost use Rattle.seg_spec.specs.Types.{Form, form_at};
 ghost use Rattle.seg_spec.specs.Value.{Values, count};
-ghost use Rattle.seg_cells.specs.Places.{place_of};
+ghost use Rattle.seg_value.specs.CellPlaces.{place_of};
 ghost use Rattle.seg_seq.specs.Kinds.{HasNumbers};
 ghost use Rattle.seg_seq.specs.Lists.{HasList};
 ghost use Rattle.seg_seq.specs.Sequences.{HasText, HasItems, item_type, IsPast, ShowsItem};

@@ -7,7 +7,7 @@ ghost use Rattle.seg_spec.specs.Reads.{count_at};
 ghost use Rattle.seg_spec.specs.Shrinking.{ShrinksPlace};
 ghost use Rattle.seg_spec.specs.Types.{Form, form_at, size};
 ghost use Rattle.seg_spec.specs.Value.{Value, Values, Text, nil, cons, count, append, default_of};
-ghost use Rattle.seg_cells.specs.Places.{place_of};
+ghost use Rattle.seg_value.specs.CellPlaces.{place_of};
 ghost use Rattle.seg_seq.specs.Kinds.{is_sequence, HasNumbers};
 ghost use Rattle.seg_seq.specs.Lists.{HasList, IsNoList, AddsItem, LosesItem};
 ghost use Rattle.seg_seq.specs.Sequences.{HasText, HasItems, item_type, Declines, HasNone, ComesToHold, LacksRoom, Rewrites, push_asks, PushesNumber, PushesBack, PopsBack};

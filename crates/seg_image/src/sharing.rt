@@ -16,7 +16,7 @@ ghost use Rattle.seg_spec.specs.Sharing.{FrozenBeside};
 ghost use Rattle.seg_spec.specs.Types.{size};
 ghost use Rattle.seg_spec.specs.Value.{Value};
 ghost use Rattle.seg_spec.specs.Window.{KeepsHost};
-ghost use Rattle.seg_cells.specs.Places.{place_of, object_at};
+ghost use Rattle.seg_value.specs.CellPlaces.{place_of, object_at};
 ghost use Rattle.seg_seq.specs.Sequences.{LacksRoom};
 ghost use Rattle.seg_image.specs.Images.{segment_of, allocator_of, bytes_in, types_of, ChangesBytes};
 ghost use Rattle.seg_image.specs.Owners.{OwnAndShared, AreShared, FreezesOwn};

@@ -4,7 +4,7 @@ ghost use Rattle.seg_spec.specs.Clearing.{BesideShared, ClearsPlace};
 ghost use Rattle.seg_spec.specs.Shared.{named_in};
 ghost use Rattle.seg_spec.specs.Types.{Form, form_at};
 ghost use Rattle.seg_spec.specs.Value.{Value, default_of};
-ghost use Rattle.seg_cells.specs.Places.{place_of};
+ghost use Rattle.seg_value.specs.CellPlaces.{place_of};
 ghost use Rattle.seg_image.specs.Images.{bytes_in, types_of, ChangesBytes};
 ghost use Rattle.seg_image.specs.Places.{StandsIn};
 

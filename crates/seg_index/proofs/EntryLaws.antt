@@ -16,11 +16,11 @@ use Rattle.seg_spec.proofs.Images.RootWriteLaws.{set_number-changes}
 use Rattle.seg_spec.proofs.Values.CellChangeLaws.{ChangesOnly-trans, ChangesOnly-wider}
 use Rattle.seg_spec.proofs.PointerLaws.{target-set_same, target-same}
 use Rattle.seg_value.specs.Names.{IsSameEntry}
-use Rattle.seg_entry.specs.Names.{type_at, name_after, name_of, name_at}
-use Rattle.seg_entry.proofs.NamedTags.{is_named, in_block}
-use Rattle.seg_entry.specs.Entries.{entry_read, second_word_of, write_entry}
+use Rattle.seg_cells.specs.Names.{type_at, name_after, name_of, name_at}
+use Rattle.seg_cells.proofs.NamedTags.{is_named, in_block}
+use Rattle.seg_cells.specs.NameEntries.{entry_read, second_word_of, write_entry}
 use Rattle.seg_index.specs.Lists.{entry_of, IsNamed}
-use Rattle.seg_entry.specs.declared.entry.NameEntry.{NameEntry}
+use Rattle.seg_cells.specs.declared.name_entry.NameEntry.{NameEntry}
 
 -- ---- the parts of a word
 

@@ -19,7 +19,7 @@ use Rattle.seg_spec.proofs.Values.PlaceFrameLaws.{word-same}
 use Rattle.seg_spec.proofs.Heap.LiveBlockLaws.{times-same, times-other}
 use Rattle.seg_spec.proofs.Heap.BlockFrameLaws.{kept_twice}
 use Rattle.seg_value.specs.Names.{FindsNames, ChangesIndex, AddsName, OpensName, ClosesName, EmptiesIndex}
-use Rattle.seg_entry.specs.Entries.{write_entry}
+use Rattle.seg_cells.specs.NameEntries.{write_entry}
 use Rattle.seg_index.specs.Lists.{entry_of, PartedNames, FindsNamesOf, MayEnter, ChangesNames, EntersName, LeavesName}
 use Rattle.seg_index.proofs.EntryLaws.{entry_moved, entry_written, write_entry-changes}
 use Rattle.seg_index.proofs.RootOrder.{InOrder, order_with, order_without, get_append, get_front, get_below, missing_within}

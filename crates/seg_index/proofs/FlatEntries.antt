@@ -20,10 +20,10 @@ use Rattle.seg_spec.proofs.Heap.LiveBlockLaws.{there, LiesIn, live-lie}
 use Rattle.seg_cells.specs.Search.{IsBetween}
 use Rattle.seg_value.specs.Names.{FindsNames}
 use Rattle.seg_value.proofs.IndexEntryLaws.{name_block, name_room}
-use Rattle.seg_entry.specs.Names.{name_at}
-use Rattle.seg_entry.specs.Entries.{entry_read}
+use Rattle.seg_cells.specs.Names.{name_at}
+use Rattle.seg_cells.specs.NameEntries.{entry_read}
 use Rattle.seg_index.specs.Lists.{entry_of, root_after, PartedNames, IsNamed, FindsNamesOf}
-use Rattle.seg_entry.specs.declared.entry.NameEntry.{NameEntry}
+use Rattle.seg_cells.specs.declared.name_entry.NameEntry.{NameEntry}
 use Rattle.seg_index.proofs.EntryLaws.{entry_reads, name_reads, type_small}
 use Rattle.seg_index.proofs.RootOrder.{InOrder, get_there, get_below, halves_end, Searched, next_found}
 

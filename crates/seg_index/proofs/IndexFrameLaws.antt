@@ -27,7 +27,7 @@ use Rattle.seg_spec.proofs.Images.RootFrameLaws.{ListsNames-kept}
 use Rattle.seg_rbtree.specs.declared.path.Path.{Path}
 use Rattle.seg_rbtree.specs.Ways.{LeadsTo}
 use Rattle.seg_rbtree.proofs.Paths.{leads_same}
-use Rattle.seg_entry.specs.Names.{name_at}
+use Rattle.seg_cells.specs.Names.{name_at}
 use Rattle.seg_index.specs.Lists.{IsNamed, FindsNamesOf, LeadsToName, IsSpot, IsVacant}
 use Rattle.seg_index.specs.declared.lookup.Spot.{Spot}
 use Rattle.seg_index.specs.declared.lookup.Spot.TheVariants.{Flat, Tree as InTree}

@@ -7,12 +7,12 @@ use Rattle.seg_spec.specs.Types.{Table}
 use Rattle.seg_spec.specs.Index.{Root, same_name, root_named}
 use Rattle.seg_rbtree.specs.declared.path.Path.{Path}
 use Rattle.seg_index.specs.Lists.{entry_of, LeadsToName, IsSpot, LooksUp, IsOccupied}
-use Rattle.seg_entry.specs.declared.entry.NameEntry.{NameEntry}
-use Rattle.seg_entry.specs.declared.kind.IndexKind.{IndexKind}
-use Rattle.seg_entry.specs.declared.kind.IndexKind.TheVariants.{Flat, Tree}
+use Rattle.seg_cells.specs.declared.name_entry.NameEntry.{NameEntry}
+use Rattle.seg_cells.specs.declared.kind.IndexKind.{IndexKind}
+use Rattle.seg_cells.specs.declared.kind.IndexKind.TheVariants.{Flat, Tree}
 use Rattle.seg_index.specs.declared.lookup.Spot.{Spot}
 use Rattle.seg_index.specs.declared.lookup.Spot.TheVariants as spot
-use Rattle.seg_entry.proofs.Precedes.{same_by_test}
+use Rattle.seg_cells.proofs.Precedes.{same_by_test}
 
 -- the root that is found for a name has that name
 pub root_of_name : (names : List Root) (name : List ℕ) (root : Root) → root_named names name ≡ Some root → root.name ≡ name

@@ -13,8 +13,8 @@ use Rattle.std.proofs.lemmas.Option.{slice_get_past}
 use Rattle.seg_spec.specs.Index.{Root, Precedes, AreAscending, same_name, root_named}
 use Rattle.seg_cells.specs.Search.{IsBetween}
 use Rattle.seg_index.specs.Lists.{entry_of, comes_before, root_after, PartedNames, LooksUp}
-use Rattle.seg_entry.specs.declared.entry.NameEntry.{NameEntry}
-use Rattle.seg_entry.proofs.Precedes.{precedes_of_less, precedes_of_greater, same_of_equal, precedes_trans, precedes_differs, same_name_self, precedes_test, precedes_test_back}
+use Rattle.seg_cells.specs.declared.name_entry.NameEntry.{NameEntry}
+use Rattle.seg_cells.proofs.Precedes.{precedes_of_less, precedes_of_greater, same_of_equal, precedes_trans, precedes_differs, same_name_self, precedes_test, precedes_test_back}
 
 -- ---- names before a name, and names after it
 

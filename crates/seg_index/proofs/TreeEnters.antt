@@ -35,10 +35,10 @@ use Rattle.seg_rbtree.specs.Ways.{LeadsTo}
 use Rattle.seg_rbtree.specs.Changes.{StandApart, IsNew, with_node, Leaves}
 use Rattle.seg_rbtree.proofs.Orders.{each_with}
 use Rattle.seg_rbtree.proofs.Paths.{leads_same}
-use Rattle.seg_entry.specs.Names.{name_at}
-use Rattle.seg_entry.specs.Entries.{write_entry}
+use Rattle.seg_cells.specs.Names.{name_at}
+use Rattle.seg_cells.specs.NameEntries.{write_entry}
 use Rattle.seg_index.specs.Lists.{entry_of, IsNamed, FindsNamesOf, LeadsToName, MayEnter, ChangesNames, EntersName}
-use Rattle.seg_entry.proofs.Precedes.{precedes_of_less, precedes_of_greater, same_of_equal, same_name_self, precedes_trans}
+use Rattle.seg_cells.proofs.Precedes.{precedes_of_less, precedes_of_greater, same_of_equal, same_name_self, precedes_trans}
 use Rattle.seg_index.proofs.EntryLaws.{entry_reads, name_reads, type_small, entry_written, write_entry-changes}
 use Rattle.seg_index.proofs.RootOrder.{InOrder, AllBefore, AllAfter, order_head, order_tail, order_with}
 use Rattle.seg_index.proofs.TreeLists.{IsListed, AreListed, order, shape, its, blocks_are, IsNode, are_nodes, listed, ascend, few_nodes, is_search_tree}

@@ -24,11 +24,11 @@ use Rattle.seg_rbtree.specs.Ways.{LeadsTo}
 use Rattle.seg_rbtree.specs.Paths.{FindsEqual}
 use Rattle.seg_rbtree.proofs.Paths.{finds_first}
 use Rattle.seg_rbtree.proofs.Keys.{equal_to_one}
-use Rattle.seg_entry.specs.Names.{name_at}
-use Rattle.seg_entry.specs.Entries.{entry_read}
+use Rattle.seg_cells.specs.Names.{name_at}
+use Rattle.seg_cells.specs.NameEntries.{entry_read}
 use Rattle.seg_index.specs.Lists.{entry_of, comes_before, root_after, IsNamed, FindsNamesOf, LeadsToName, LooksUp}
-use Rattle.seg_entry.specs.declared.entry.NameEntry.{NameEntry}
-use Rattle.seg_entry.proofs.Precedes.{less_of_precedes, precedes_of_less, precedes_of_greater, same_of_equal, same_name_self, precedes_test, precedes_test_back, precedes_trans, precedes_differs}
+use Rattle.seg_cells.specs.declared.name_entry.NameEntry.{NameEntry}
+use Rattle.seg_cells.proofs.Precedes.{less_of_precedes, precedes_of_less, precedes_of_greater, same_of_equal, same_name_self, precedes_test, precedes_test_back, precedes_trans, precedes_differs}
 use Rattle.seg_index.proofs.EntryLaws.{entry_reads, name_reads, type_small}
 use Rattle.seg_index.proofs.RootOrder.{InOrder, AllAfter, order_head, order_tail, comes_true, comes_false}
 

@@ -35,9 +35,9 @@ use Rattle.seg_rbtree.specs.Changes.{StandApart, without_node, Leaves}
 use Rattle.seg_rbtree.proofs.Paths.{finds_equal}
 use Rattle.seg_rbtree.proofs.NodeRemovalLaws.{each_without}
 use Rattle.seg_rbtree.proofs.WithoutNode.{without_middle}
-use Rattle.seg_entry.specs.Names.{name_at}
+use Rattle.seg_cells.specs.Names.{name_at}
 use Rattle.seg_index.specs.Lists.{entry_of, FindsNamesOf, LeadsToName, ChangesNames, LeavesName}
-use Rattle.seg_entry.proofs.Precedes.{same_of_equal, same_name_self}
+use Rattle.seg_cells.proofs.Precedes.{same_of_equal, same_name_self}
 use Rattle.seg_index.proofs.RootOrder.{InOrder, order_without, named_past}
 use Rattle.seg_index.proofs.TreeLists.{entry_in, path_is, AreListed, order, nodes, shape, its, blocks_are, IsNode, are_nodes, listed, ascend, few_nodes, is_search_tree}
 use Rattle.seg_index.proofs.TreeChanges.{Splits, split_listed, join_listed, entries_kept, order_before, lists_by, times_with, contains_middle}

@@ -40,8 +40,8 @@ use Rattle.seg_spec.specs.Spending.{spent, entry_asks, EntryBlocks}
 use Rattle.seg_rbtree.specs.declared.path.Path.{Path}
 use Rattle.seg_rbtree.specs.Ways.{LeadsTo}
 use Rattle.seg_rbtree.specs.Roots.{path_root}
-use Rattle.seg_entry.specs.Names.{name_at}
-use Rattle.seg_entry.specs.declared.entry.NameEntry.{NameEntry}
+use Rattle.seg_cells.specs.Names.{name_at}
+use Rattle.seg_cells.specs.declared.name_entry.NameEntry.{NameEntry}
 use Rattle.seg_index.specs.declared.lookup.Spot.{Spot}
 use Rattle.seg_index.specs.declared.lookup.Spot.TheVariants as spot
 use Rattle.seg_index.specs.declared.lookup.Occupied.{Occupied}

@@ -9,8 +9,8 @@ use Rattle.seg_spec.specs.Types.{Table, size}
 use Rattle.seg_spec.proofs.BytesLaws.{number-slice}
 use Rattle.seg_spec.proofs.SliceLaws.{IsSame-part}
 use Rattle.seg_rbtree.specs.Parts.{ByteRange, byte_range}
-use Rattle.seg_entry.specs.Names.{named_type, type_at, values_at, len_at}
-use Rattle.seg_entry.specs.Names.{name_after, name_of, name_at}
+use Rattle.seg_cells.specs.Names.{named_type, type_at, values_at, len_at}
+use Rattle.seg_cells.specs.Names.{name_after, name_of, name_at}
 
 -- the bytes of the name itself
 abbrev pub ranges_after : Table → ℕ → ℕ → ℕ → Option ℕ → List ByteRange

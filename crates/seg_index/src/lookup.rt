@@ -4,7 +4,7 @@ ghost use Rattle.seg_spec.specs.Window.{KeepsHost};
 ghost use Rattle.seg_index.specs.Lists.{WhereNames, IsOccupied, IsVacant, IsRootOf, MayEnter, EntersOrNot, LeavesName};
 
 use crate::{flat, tree};
-use seg_entry::{IndexKind, NameEntry};
+use seg_cells::{IndexKind, NameEntry};
 use seg_rbtree::Path;
 use seg_value::{Code, Fit, Heap, PayloadAt};
 use std::alloc::Allocator;

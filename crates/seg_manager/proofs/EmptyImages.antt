@@ -19,8 +19,8 @@ use Rattle.seg_spec.proofs.SliceLaws.{slice-slice, slice-put_same, put-changes}
 use Rattle.seg_spec.proofs.PointerLaws.{target-set_same, target-same}
 use Rattle.seg_spec.proofs.Values.CellChangeLaws.{ChangesOnly-trans, ChangesOnly-wider}
 use Rattle.seg_spec.proofs.Images.RootWriteLaws.{set_number-changes}
-use Rattle.seg_entry.specs.declared.kind.IndexKind.{IndexKind}
-use Rattle.seg_entry.specs.declared.kind.IndexKind.TheVariants as kinds
+use Rattle.seg_cells.specs.declared.kind.IndexKind.{IndexKind}
+use Rattle.seg_cells.specs.declared.kind.IndexKind.TheVariants as kinds
 use Rattle.seg_manager.specs.NewSegments.{nothing, word_of_kind}
 
 -- ---- zeros

@@ -11,9 +11,9 @@ use Rattle.seg_spec.proofs.Values.PlaceFrameLaws.{each_weaker}
 use Rattle.seg_spec.proofs.Values.PathFrameLaws.{each_at}
 use Rattle.seg_raw.specs.declared.code.Code.TheVariants as code
 use Rattle.seg_value.specs.Stored.{Stored}
-use Rattle.seg_entry.specs.Names.{type_of, name_of}
+use Rattle.seg_cells.specs.Names.{type_of, name_of}
 use Rattle.seg_index.specs.Lists.{entry_of, comes_before, root_after, IsNamed, FindsNamesOf}
-use Rattle.seg_entry.specs.declared.entry.NameEntry.{NameEntry}
+use Rattle.seg_cells.specs.declared.name_entry.NameEntry.{NameEntry}
 use Rattle.seg_index.proofs.EntryLaws.{type_small, type_is, root_name}
 use Rattle.seg_index.proofs.HeldNames.{finds_held}
 use Rattle.seg_manager.specs.NamedObjects.{found_of, found_as}

@@ -8,7 +8,7 @@ use Rattle.seg_spec.specs.Sound.{Picture, IsHeld}
 use Rattle.seg_spec.specs.Window.{Placement, region_of, KeepsHost}
 use Rattle.seg_spec.proofs.Heap.GapOrderLaws.{gaps-free}
 use Rattle.seg_spec.proofs.Values.PlaceFrameLaws.{word-same, each_weaker}
-use Rattle.seg_entry.specs.declared.kind.IndexKind.{IndexKind}
+use Rattle.seg_cells.specs.declared.kind.IndexKind.{IndexKind}
 use Rattle.seg_value.specs.Stored.{Stored}
 use Rattle.seg_manager.specs.Segments.{IsSegment}
 use Rattle.seg_manager.specs.Gaps.{LiesBeside, ZeroesGaps}

@@ -10,8 +10,8 @@ use Rattle.seg_spec.specs.Header.{version_word, index_kind_word, next_word, shar
 use Rattle.seg_spec.specs.Heap.{live, gaps}
 use Rattle.seg_spec.specs.Sound.{Picture}
 use Rattle.seg_value.specs.Stored.{Stored}
-use Rattle.seg_entry.specs.declared.kind.IndexKind.{IndexKind}
-use Rattle.seg_entry.specs.declared.kind.IndexKind.TheVariants as kind
+use Rattle.seg_cells.specs.declared.kind.IndexKind.{IndexKind}
+use Rattle.seg_cells.specs.declared.kind.IndexKind.TheVariants as kind
 use Rattle.seg_manager.specs.Segments.{IsSegment}
 use Rattle.seg_manager.specs.Gaps.{IsZeroed}
 

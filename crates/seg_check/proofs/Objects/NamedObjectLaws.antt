@@ -26,8 +26,8 @@ use Rattle.seg_check.specs.Positions.{HasEntryAt, name_of_last}
 use Rattle.std.proofs.lemmas.List.{append_assoc}
 use Rattle.seg_check.specs.Resolving.{ResolvesBy, IsReady}
 use Rattle.seg_check.specs.Roots.{names_ahead, ResolvesRoots, CanResolveRoots, AdvancesRoots, ClaimsNamed, CanClaimNamed}
-use Rattle.seg_entry.specs.Names.{type_at, name_after, name_of}
-use Rattle.seg_entry.proofs.NamedTags.{is_named, in_block}
+use Rattle.seg_cells.specs.Names.{type_at, name_after, name_of}
+use Rattle.seg_cells.proofs.NamedTags.{is_named, in_block}
 use Rattle.seg_check.proofs.Heap.TagNumberLaws.{one_tag}
 use Rattle.seg_check.proofs.Heap.TagLaws.{places_tagged, allowed_as}
 use Rattle.seg_check.proofs.Queue.ReadPlaceLaws.{positions_of}

@@ -19,12 +19,12 @@ use Rattle.client_spec.specs.OnImages.{Move, Given, Left}
 use Rattle.client_spec.specs.Clients.{IsVerified, AreAccepted, RunClients, table_after, outputs, image_after, ending_after}
 use Rattle.client_spec.specs.Outcome.{CanLie, CanMove, CanRun, Refusal, IsTurnOf, IsRefusalOf}
 use Rattle.client_spec.specs.Fixtures.{increment, move_to}
-use Rattle.client_verify.specs.Refusals.{IsRefused}
+use Rattle.client_vm.specs.Refusals.{IsRefused}
 use Rattle.client_spec.proofs.Spelling.OneClientLaws.{one_client}
 use Rattle.test_definitions.proofs.WorkedRuns.IncrementLaws.{increment_spelled}
 use Rattle.test_definitions.proofs.WorkedImages.Whole as whole
 use Rattle.client_vm.specs.declared.report.Report.{Report}
-use Rattle.client_verify.specs.declared.refused.Refused.{Refused}
+use Rattle.client_vm.specs.Refused.{Refused}
 use Rattle.client_vm.specs.declared.report.Ended.TheVariants as ended
 use Rattle.client_vm.specs.Jobs.{Job, Effect, job_at, effect_at}
 use Rattle.client_vm.specs.Outcomes.{AreReports, AreLeftByRuns, HasOutcome, IsFault, IsRefusedFor}

@@ -1,5 +1,5 @@
 use Rattle.std.proofs.Common.{[], ◌∷◌, ◌++◌, sym, ap, ◌∙◌, subst}
-use Rattle.seg_spec.specs.Types.{longer}
+use Rattle.client_spec.specs.Types.{longer}
 use Rattle.client_spec.specs.Grammar.{SpellsClient}
 use Rattle.client_verify.specs.Texts.{texts_of}
 use Rattle.client_verify.proofs.TextsLaws.{text_added, client_added, first_wrong}

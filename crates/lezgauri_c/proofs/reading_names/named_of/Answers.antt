@@ -2,7 +2,7 @@ use Rattle.std.proofs.Common.{◌≡◌, ◌+◌, ◌*◌, ℕ, Option, Some, No
 use Rattle.seg_spec.specs.Bytes.{slice}
 use Rattle.seg_spec.specs.Types.{Table, size}
 use Rattle.seg_spec.specs.Value.{count}
-use Rattle.seg_entry.specs.declared.entry.NameEntry.{NameEntry}
+use Rattle.seg_cells.specs.declared.name_entry.NameEntry.{NameEntry}
 use Rattle.seg_manager.proofs.NamedReads.{entry_type, entry_count}
 use Rattle.lezgauri_c.specs.KeptImages.{types_in}
 use Rattle.lezgauri_c.proofs.reading_names.named_of.Goals as goal

@@ -1,5 +1,5 @@
 use Rattle.std.proofs.Common.{◌≡◌, ◌≢◌, ◌∙◌, Ok, Some, true, map, ap, subst}
-use Rattle.seg_spec.specs.Types.{Form, form_at}
+use Rattle.client_spec.specs.Types.{Form, form_at}
 use Rattle.client_code.specs.Views.{instruction_of, constants_of}
 use Rattle.script_meaning.specs.declared.comparison.Comparison.{Comparison}
 use Rattle.script_meaning.proofs.WholeLaws.{whole_means}

@@ -2,7 +2,7 @@ use Rattle.std.proofs.Common.{ℕ, ◌-◌, ◌≤◌, Option, sym, subst}
 use Rattle.std.specs.Prelude.{IsSomeAnd}
 use Rattle.std.specs.Option.{IfSome}
 use Rattle.seg_spec.specs.Value.{count}
-use Rattle.seg_cells.specs.Places.{place_of}
+use Rattle.seg_value.specs.CellPlaces.{place_of}
 use Rattle.seg_seq.specs.Sequences.{ShowsItem}
 use Rattle.seg_image.proofs.IteratorLaws.{next_index, shown}
 use Rattle.seg_image.proofs.iterators.item_after.Goals as goal

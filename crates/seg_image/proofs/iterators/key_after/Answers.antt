@@ -1,6 +1,6 @@
 use Rattle.std.proofs.Common.{rules, ◌≡◌, ℤ, Option, slice_get, sym, ap, ◌∙◌, subst, w64}
 use Rattle.std.proofs.lemmas.Int.{to_z-of_z}
-use Rattle.seg_cells.specs.Places.{place_of}
+use Rattle.seg_value.specs.CellPlaces.{place_of}
 use Rattle.seg_map.specs.Maps.{first_of, keys_above}
 use Rattle.seg_image.specs.Iterators.{item_before}
 use Rattle.seg_image.proofs.IteratorLaws.{keys_ascend, key_next, no_key_before}

@@ -1,8 +1,8 @@
 use Rattle.std.proofs.Common.{rules, ◌≡◌, ◌+◌, ◌^◌, ◌<◌, Err, arith}
 use Rattle.seg_spec.specs.Types.{Form, size}
 use Rattle.seg_spec.specs.Block.{Kind, tag_of}
-use Rattle.seg_cells.specs.Places.{place_of}
-use Rattle.seg_cells.specs.declared.content.Shape.TheVariants as shape
+use Rattle.seg_value.specs.CellPlaces.{place_of}
+use Rattle.seg_value.specs.Shape.TheVariants as shape
 use Rattle.seg_image.proofs.PutContent.{holds_new}
 use Rattle.seg_image.proofs.owners.put_new.Goals as goal
 

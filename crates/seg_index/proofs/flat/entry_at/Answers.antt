@@ -1,5 +1,5 @@
 use Rattle.std.proofs.Common.{◌+◌, ◌*◌, ◌%◌, ◌^◌, ap, ◌∙◌}
-use Rattle.seg_entry.specs.Entries.{entry_read}
+use Rattle.seg_cells.specs.NameEntries.{entry_read}
 use Rattle.seg_index.proofs.FlatEntries.{flat_reads}
 use Rattle.seg_index.proofs.flat.entry_at.Goals as goal
 

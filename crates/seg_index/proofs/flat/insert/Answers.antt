@@ -2,7 +2,7 @@ use Rattle.std.proofs.Common.{◌≡◌, ◌+◌, ◌^◌, ◌<◌, ap, ◌∙�
 use Rattle.std.proofs.lemmas.Result.{MatchResult-from_err}
 use Rattle.seg_spec.specs.Window.{Placement}
 use Rattle.seg_value.specs.Names.{index_cell, FindsIndex}
-use Rattle.seg_entry.specs.Entries.{write_entry}
+use Rattle.seg_cells.specs.NameEntries.{write_entry}
 use Rattle.seg_index.specs.Lists.{EntersName}
 use Rattle.seg_index.proofs.FlatEntries.{flat_finds}
 use Rattle.seg_index.proofs.FlatChanges.{index_within, name_entered}

@@ -1,5 +1,5 @@
 use Rattle.std.proofs.Common.{◌<◌, length, ◌∙◌, arith}
-use Rattle.seg_entry.proofs.NameOrder.{by_byte, by_lengths}
+use Rattle.seg_cells.proofs.NameOrder.{by_byte, by_lengths}
 use Rattle.seg_index.proofs.order.compare.Goals as goal
 
 pub returns-then-name-i : goal.returns-then-name-i

@@ -1,5 +1,5 @@
 use Rattle.std.proofs.Common.{ℕ, List, ◌+◌, refl, ap, ◌∙◌, Some, None}
-use Rattle.seg_entry.specs.Entries.{entry_read}
+use Rattle.seg_cells.specs.NameEntries.{entry_read}
 use Rattle.seg_index.proofs.TreeLists.{first_is}
 use Rattle.seg_index.proofs.tree.first_name.Goals as goal
 

@@ -5,7 +5,7 @@ use Rattle.seg_spec.specs.Header.{index_cell}
 use Rattle.seg_spec.specs.Window.{Placement, with_bytes}
 use Rattle.seg_spec.specs.Calls.{Refuses}
 use Rattle.seg_spec.specs.Spending.{entry_asks}
-use Rattle.seg_entry.specs.Entries.{write_entry}
+use Rattle.seg_cells.specs.NameEntries.{write_entry}
 use Rattle.seg_index.proofs.TreeEnters.{AddsFrom, node_fits, enters}
 use Rattle.seg_index.proofs.tree.insert.Goals as goal
 

@@ -1,7 +1,7 @@
 use Rattle.std.proofs.Common.{◌≡◌, ◌+◌, ℕ, Option, option_map, refl, ap, ◌∙◌, sym, Some, None}
 use Rattle.seg_spec.specs.Window.{Placement}
 use Rattle.seg_rbtree.specs.Paths.{node_at}
-use Rattle.seg_entry.specs.Entries.{entry_read}
+use Rattle.seg_cells.specs.NameEntries.{entry_read}
 use Rattle.seg_index.specs.Lists.{LeadsToName}
 use Rattle.seg_index.proofs.TreeLists.{entry_in, path_is, leads_to, looks_up}
 use Rattle.seg_index.proofs.tree.look_up.Goals as goal

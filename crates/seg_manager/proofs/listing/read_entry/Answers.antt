@@ -1,6 +1,6 @@
 use Rattle.std.proofs.Common.{◌≡◌, ℕ, List, Option, Some, None, ap, ◌∙◌, sym}
 use Rattle.seg_spec.specs.Types.{Table}
-use Rattle.seg_entry.specs.Names.{type_of, name_of}
+use Rattle.seg_cells.specs.Names.{type_of, name_of}
 use Rattle.seg_manager.proofs.NamedReads.{entry_type, entry_name, entry_count}
 use Rattle.seg_manager.proofs.listing.read_entry.Goals as goal
 

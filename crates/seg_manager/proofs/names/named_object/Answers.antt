@@ -1,5 +1,5 @@
 use Rattle.std.proofs.Common.{ℕ, List, ap, ◌∙◌, sym}
-use Rattle.seg_entry.specs.Names.{type_of}
+use Rattle.seg_cells.specs.Names.{type_of}
 use Rattle.seg_manager.proofs.NamedReads.{found_other, found_same}
 use Rattle.seg_manager.proofs.names.named_object.Goals as goal
 

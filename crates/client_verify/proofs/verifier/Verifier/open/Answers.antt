@@ -1,5 +1,5 @@
 use Rattle.std.proofs.Common.{◌≡◌, ◌+◌, List, ap, ◌∙◌, subst, Ok}
-use Rattle.seg_spec.specs.Types.{Table}
+use Rattle.client_spec.specs.Types.{Table}
 use Rattle.client_spec.specs.Syntax.{Constant}
 use Rattle.client_spec.specs.Grammar.{IsInstruction}
 use Rattle.client_spec.specs.Operations.{row_of}

@@ -2,7 +2,7 @@ use Rattle.std.proofs.Common.{pos}
 use Rattle.script_meaning.specs.Meaning.{combined}
 use Rattle.script_meaning.specs.Following.{operator_of}
 use Rattle.client_spec.specs.Effect.{truth}
-use Rattle.seg_spec.specs.Value.{same_int}
+use Rattle.client_spec.specs.Value.{same_int}
 use Rattle.script_meaning.proofs.TermLaws.{extends_keeps, if_some}
 use Rattle.script_meaning.proofs.terms.Terms.logic.Goals as goal
 

@@ -6,8 +6,8 @@ use Rattle.seg_spec.specs.Index.{IsName, Precedes}
 use Rattle.seg_spec.specs.Sound.{times}
 use Rattle.seg_spec.proofs.Heap.LiveBlockLaws.{times-append, times-same}
 use Rattle.seg_spec.specs.Pointer.{target}
-use Rattle.seg_entry.specs.Entries.{entry_read}
-use Rattle.seg_entry.specs.declared.entry.NameEntry.{NameEntry}
+use Rattle.seg_cells.specs.NameEntries.{entry_read}
+use Rattle.seg_cells.specs.declared.name_entry.NameEntry.{NameEntry}
 use Rattle.seg_check.specs.Claiming.{Refutes}
 use Rattle.seg_check.specs.Roots.{CanResolveRoots, CanClaimNamed, names_ahead}
 use Rattle.seg_check.proofs.Queue.QueueStepLaws.{refuses_map}

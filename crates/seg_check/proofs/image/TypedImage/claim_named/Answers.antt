@@ -6,8 +6,8 @@ use Rattle.seg_spec.specs.Types.{Table, form_at, size}
 use Rattle.seg_layout.specs.Forms.{has_cells}
 use Rattle.seg_spec.specs.Pointer.{target}
 use Rattle.seg_spec.specs.Block.{Kind, tag_of}
-use Rattle.seg_entry.specs.Names.{type_of}
-use Rattle.seg_entry.proofs.NamedTags.{is_named, in_block}
+use Rattle.seg_cells.specs.Names.{type_of}
+use Rattle.seg_cells.proofs.NamedTags.{is_named, in_block}
 use Rattle.seg_block.specs.declared.tag.Tag.{Tag}
 use Rattle.seg_block.specs.Tags.{word_of, kind_of}
 use Rattle.seg_check.specs.declared.fault.ContentFault.{ContentFault}

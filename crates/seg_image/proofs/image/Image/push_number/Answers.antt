@@ -1,6 +1,6 @@
 use Rattle.std.proofs.Common.{subst, w64}
 use Rattle.std.proofs.lemmas.Int.{to_z-of_z}
-use Rattle.seg_cells.specs.Places.{place_of}
+use Rattle.seg_value.specs.CellPlaces.{place_of}
 use Rattle.seg_seq.specs.Sequences.{PushesNumber}
 use Rattle.seg_image.proofs.image.Image.push_number.Goals as goal
 

@@ -3,7 +3,7 @@ use Rattle.std.specs.Prelude.{MatchResult}
 use Rattle.seg_spec.specs.Clearing.{BesideShared}
 use Rattle.seg_spec.specs.Shared.{named_in}
 use Rattle.seg_spec.specs.Types.{Form, form_at}
-use Rattle.seg_cells.specs.Places.{place_of}
+use Rattle.seg_value.specs.CellPlaces.{place_of}
 use Rattle.seg_manager.specs.Segments.{one_value}
 use Rattle.seg_seq.specs.Sequences.{LacksRoom}
 use Rattle.seg_image.specs.Owners.{PutsNew}

@@ -4,8 +4,8 @@ use Rattle.std.specs.Result.{result_ok}
 use Rattle.std.proofs.lemmas.Int.{to_z-of_z}
 use Rattle.seg_spec.specs.Items.{key_place}
 use Rattle.seg_spec.specs.Types.{form_at}
-use Rattle.seg_cells.specs.Places.{place_of}
-use Rattle.seg_cells.specs.declared.place.Place.{Place}
+use Rattle.seg_value.specs.CellPlaces.{place_of}
+use Rattle.seg_value.specs.Place.{Place}
 use Rattle.seg_raw.specs.declared.code.Code.{Code}
 use Rattle.seg_map.specs.EitherMap.{IsMapOf}
 use Rattle.seg_map.specs.Maps.{FindsValue}

@@ -1,6 +1,6 @@
 use Rattle.std.proofs.Common.{◌≡◌, suc, ◌-◌, ◌<◌, true, false, None, Some, refl, sym, ap, ◌∙◌, subst, arith}
 use Rattle.seg_spec.specs.Value.{count}
-use Rattle.seg_cells.specs.Places.{place_of}
+use Rattle.seg_value.specs.CellPlaces.{place_of}
 use Rattle.seg_seq.specs.Sequences.{ShowsItem}
 use Rattle.seg_image.specs.Iterators.{ShowsItemBefore}
 use Rattle.seg_image.specs.Places.{is_list}

@@ -1,7 +1,10 @@
 //! Keys of places that are kept while a name refers to the place, and what a block does to them.
 
+use crate::code::Code;
 use crate::emitter::Emitter;
-use script_code::{Code, Key, Meaning, Names, Place, Register, Root, Trouble, append};
+use crate::error::{Trouble, append};
+use crate::names::{Key, Meaning, Names, Place, Root};
+use crate::registers::Register;
 use script_syntax::{
     Block, ExpressionAt, ExpressionKind, Range, Span, Statement, StatementKind, StepKind, Tree,
     Value, ValueKind,

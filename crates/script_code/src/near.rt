@@ -1,7 +1,8 @@
 //! Which name may be meant by one that isn't there.
 
 use crate::emitter::Emitter;
-use script_code::{Program, StructAt};
+use crate::program::Program;
+use crate::types::StructAt;
 use script_syntax::{Span, Tree};
 
 impl Emitter {

@@ -6,8 +6,8 @@
 use Rattle.std.specs.Prelude.{ℕ, ◌+◌, ◌*◌, ◌^◌, List}
 use Rattle.seg_spec.specs.Bytes.{byte, set_word}
 use Rattle.seg_spec.specs.Pointer.{target, set_pointer}
-use Rattle.seg_entry.specs.Names.{values_at, len_at}
-use Rattle.seg_entry.specs.declared.entry.NameEntry.{NameEntry}
+use Rattle.seg_cells.specs.Names.{values_at, len_at}
+use Rattle.seg_cells.specs.declared.name_entry.NameEntry.{NameEntry}
 
 abbrev pub zero_at : List ℕ → ℕ → ℕ
 zero_at bytes entry = byte bytes (entry + 7)

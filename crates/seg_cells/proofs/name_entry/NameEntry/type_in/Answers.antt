@@ -1,8 +1,8 @@
 use Rattle.std.proofs.Common.{sym, ap, ◌∙◌}
 use Rattle.seg_spec.specs.Heap.{tag_at}
-use Rattle.seg_entry.specs.Names.{named_type, type_of}
-use Rattle.seg_entry.proofs.NamedTags.{no_block, in_block}
-use Rattle.seg_entry.proofs.entry.NameEntry.type_in.Goals as goal
+use Rattle.seg_cells.specs.Names.{named_type, type_of}
+use Rattle.seg_cells.proofs.NamedTags.{no_block, in_block}
+use Rattle.seg_cells.proofs.name_entry.NameEntry.type_in.Goals as goal
 
 pub returns-in_err-block : goal.returns-in_err-block
 returns-in_err-block c =

@@ -1,10 +1,13 @@
 //! Operators, and the numbers at places.
 
+use crate::code::Code;
 use crate::emitter::Emitter;
+use crate::kind::ErrorKind;
+use crate::names::Place;
+use crate::registers::{Known, Register};
 use crate::task::Task;
 use crate::walks::close_walk;
 use client_code::Operation;
-use script_code::{Code, ErrorKind, Known, Place, Register};
 use script_syntax::{BinaryOperator, ExpressionAt, Span, Tree};
 
 impl Emitter {

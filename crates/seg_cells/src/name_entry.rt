@@ -1,7 +1,7 @@
 ghost use Rattle.std.specs.Prelude.{◌≡◌, ◌+◌, ◌*◌, ◌<◌, ◌≤◌, ◌^◌, Some};
 ghost use Rattle.seg_spec.specs.Window.{KeepsHost, with_bytes};
-ghost use Rattle.seg_entry.specs.Names.{named_type, type_of, name_of};
-ghost use Rattle.seg_entry.specs.Entries.{entry_read, write_entry};
+ghost use Rattle.seg_cells.specs.Names.{named_type, type_of, name_of};
+ghost use Rattle.seg_cells.specs.NameEntries.{entry_read, write_entry};
 
 use seg_block::{Kind, PayloadAt, TAG, Tag, UNIT};
 use seg_layout::{TypeId, TypeTable};

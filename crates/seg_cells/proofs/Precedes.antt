@@ -8,7 +8,7 @@ use Rattle.std.specs.declared.cmp.Ordering.TheVariants.{Less, Equal, Greater}
 use Rattle.std.proofs.lemmas.Bool.Decides.{nat_tests}
 use Rattle.std.proofs.lemmas.Cmp.{ranked}
 use Rattle.seg_spec.specs.Index.{Precedes, same_name}
-use Rattle.seg_entry.proofs.NameOrder.{ranks, level}
+use Rattle.seg_cells.proofs.NameOrder.{ranks, level}
 
 pub less_of_precedes : (xs ys : List ℕ) → Precedes xs ys → slice_cmp nat_cmp xs ys ≡ Less
 less_of_precedes [] [] h = absurd h

@@ -8,7 +8,7 @@ use Rattle.seg_block.specs.declared.tag.Tag.{Tag}
 use Rattle.seg_spec.specs.Block.{tag_of}
 use Rattle.seg_spec.specs.Heap.{tag_at}
 use Rattle.seg_block.specs.Tags.{kind_of, word_of}
-use Rattle.seg_entry.specs.Names.{named_type, type_at}
+use Rattle.seg_cells.specs.Names.{named_type, type_at}
 
 pub is_named : (word T : ℕ) → word ≡ 1 + 256 * T → T < 256 → named_type word ≡ Some T
 unfolding named_type

@@ -1,7 +1,8 @@
 //! What is to be done next. Tasks wait on a stack, so that no function calls itself.
 
+use crate::names::Place;
+use crate::registers::Register;
 use client_code::DEPTH;
-use script_code::{Place, Register};
 use script_syntax::{
     BinaryOperator, Block, ElsePart, ExpressionAt, Range, Span, StatementAt, UnaryOperator,
 };

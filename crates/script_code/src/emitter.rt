@@ -1,12 +1,15 @@
 //! The state of what is emitted: the code so far, the names, and the tasks that wait.
 
+use crate::code::{Code, CodeMark};
+use crate::error::{About, Error, Problem, Warning, WarningKind, append};
+use crate::kind::ErrorKind;
+use crate::names::{Meaning, Names, Place, Way};
 use crate::places::steps_of;
+use crate::program::{Folded, MOST_DEPTH, Program};
+use crate::registers::Register;
 use crate::task::{Task, Value};
+use crate::types::TypeAt;
 use client_code::MAX_TYPES;
-use script_code::{
-    About, Code, CodeMark, Error, ErrorKind, Folded, MOST_DEPTH, Meaning, Names, Place, Problem,
-    Program, Register, TypeAt, Warning, WarningKind, Way, append,
-};
 use script_syntax::{ExpressionAt, Span, StatementAt, StatementKind, Step, StepKind, Tree, Type};
 use std::alloc::Global;
 

@@ -1,12 +1,13 @@
 //! Places: from their names and steps to a root and a way.
 
 use crate::emitter::{Emitter, is_word};
+use crate::error::{About, append};
+use crate::kind::ErrorKind;
+use crate::names::{Key, Meaning, Names, Place, Root, Way, WayKind};
 use crate::near::near_field;
+use crate::program::{Object, ObjectKind, Program};
 use crate::task::Task;
-use script_code::{
-    About, ErrorKind, Key, Meaning, Names, Object, ObjectKind, Place, Program, Root, Shape, TypeAt,
-    Way, WayKind, append,
-};
+use crate::types::{Shape, TypeAt};
 use script_syntax::{Container, ExpressionAt, ExpressionKind, Range, Span, Step, StepKind, Tree};
 
 pub fn kind_of(program: &Program, object: usize) -> Option<ObjectKind> {

@@ -1,13 +1,14 @@
 //! Walks to places: from their roots, or from the nearest name which still has its register.
 
+use crate::code::{Code, NONE, Operand};
 use crate::emitter::Emitter;
+use crate::error::WarningKind;
+use crate::names::{Key, Meaning, Place, Root, Way, WayKind};
 use crate::places::openers_from;
+use crate::program::{Object, ObjectKind};
+use crate::registers::{Class, Known, Register};
 use crate::task::{Handler, Task, Walk};
 use client_code::{ConstantKind, DEPTH, Operation};
-use script_code::{
-    Class, Code, Key, Known, Meaning, NONE, Object, ObjectKind, Operand, Place, Register, Root,
-    WarningKind, Way, WayKind,
-};
 use script_syntax::{ElsePart, Span, Statement};
 
 /// The code of an object that isn't there. The code before it tells that memory ran out.

@@ -1,8 +1,8 @@
 use Rattle.std.proofs.Common.{◌<◌, sym, ap, ◌∙◌, arith}
 use Rattle.seg_spec.specs.Block.{tag_of}
 use Rattle.seg_block.specs.Tags.{kind_of}
-use Rattle.seg_entry.proofs.NamedTags.{is_named, no_tag, other_tag}
-use Rattle.seg_entry.proofs.entry.named_type.Goals as goal
+use Rattle.seg_cells.proofs.NamedTags.{is_named, no_tag, other_tag}
+use Rattle.seg_cells.proofs.name_entry.named_type.Goals as goal
 
 pub returns-in_err-kind : goal.returns-in_err-kind
 returns-in_err-kind c = c.from_residual.ensures ∙ sym (no_tag c.args.word c.read.result c.read.ensures.every c.in_err-kind.was)

@@ -1,3 +1,0 @@
-pub mod NameOrder
-pub mod NamedTags
-pub mod Precedes
