@@ -2,8 +2,7 @@
 """Makes random programs of the language's core, and tests that `segtool verify --explain` shows the meaning of each.
 
 The core is what docs/LANGUAGE.md calls so. A program that the compiler refuses because it passes a limit isn't counted.
-Nothing need be shown of a client that forgets a register, which is about every sixtieth. Programs that need more than the
-core are made, too: of these nothing may be shown."""
+Programs that need more than the core are made, too: of these nothing may be shown."""
 import argparse
 import random
 import subprocess
@@ -101,20 +100,13 @@ def shown(segtool, folder, text):
     return done.stdout.splitlines()[-1] if done.stdout else f"status {done.returncode}: {done.stderr}"
 
 
-def forgets(segtool, folder):
-    """Whether the client of the last program forgets a register."""
-    subprocess.run([segtool, "compile", "program.lez", "client", "--on", "image", "--force"], cwd=folder, capture_output=True, check=True)
-    printed = subprocess.run([segtool, "print", "client"], cwd=folder, capture_output=True, text=True, check=True)
-    return "FORGET" in printed.stdout
-
-
 def main():
     parser = argparse.ArgumentParser(description=__doc__, formatter_class=argparse.RawDescriptionHelpFormatter)
     parser.add_argument("count", type=int, nargs="?", default=1000)
     parser.add_argument("--seed", type=int, default=1)
     parser.add_argument("--segtool", default=str(ROOT / "crates/segtool/out/segtool"))
     options = parser.parse_args()
-    wrong = refused = forgetting = 0
+    wrong = refused = 0
     with tempfile.TemporaryDirectory() as name:
         folder = Path(name)
         subprocess.run([options.segtool, "new", "image", "4096", "best", "tree"], cwd=folder, check=True)
@@ -123,8 +115,6 @@ def main():
             line = shown(options.segtool, folder, text)
             if line is None:
                 refused += 1
-            elif line == "meaning not shown" and forgets(options.segtool, folder):
-                forgetting += 1
             elif line != "meaning shown":
                 wrong += 1
                 print(f"seed {seed}: {line}\n{text}", flush=True)
@@ -133,8 +123,8 @@ def main():
             if line != "meaning not shown":
                 wrong += 1
                 print(f"beyond the core: {line}\n{text}", flush=True)
-    print(f"{options.count} programs, {refused} past a limit, {forgetting} that forget a register, {wrong} wrong")
-    return 1 if wrong or (refused + forgetting) * 10 > options.count else 0
+    print(f"{options.count} programs, {refused} past a limit, {wrong} wrong")
+    return 1 if wrong or refused * 10 > options.count else 0
 
 
 if __name__ == "__main__":

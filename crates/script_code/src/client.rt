@@ -36,9 +36,7 @@ impl Compiled {
         let at = *self.used.get(number)?;
         Some((self.constants.kind(at), self.constants.bytes(at)))
     }
-}
 
-impl Compiled {
     /// The client's file.
     pub fn file(&self, alloc: Global) -> Result<Vec<u8>, AllocError> {
         let mut file = Vec::new(alloc);

@@ -120,9 +120,7 @@ impl Code {
             stamp: 0,
         }
     }
-}
 
-impl Code {
     pub fn mark(&self) -> CodeMark {
         CodeMark {
             length: self.instructions.len(),

@@ -29,9 +29,7 @@ impl Constants {
             entries: Vec::new(alloc),
         }
     }
-}
 
-impl Constants {
     pub fn len(&self) -> usize {
         self.entries.len()
     }

@@ -71,9 +71,7 @@ impl Emitter {
             made: Vec::new(alloc),
         }
     }
-}
 
-impl Emitter {
     /// The span of an expression.
     pub fn span_of(&self, tree: &Tree<'_>, at: ExpressionAt) -> Span {
         match tree.expression(at) {

@@ -56,9 +56,7 @@ impl Linked {
             steps: 0,
         }
     }
-}
 
-impl Linked {
     /// Numbers the names before the texts, so that their numbers fit with a type's.
     fn number_names(&mut self, written: &Code, trouble: &mut Trouble) {
         for _ in 0..written.constants.len() {

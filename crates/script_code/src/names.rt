@@ -237,9 +237,7 @@ impl Names {
             next_id: 0,
         }
     }
-}
 
-impl Names {
     pub fn len(&self) -> usize {
         self.names.len()
     }

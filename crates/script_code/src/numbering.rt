@@ -37,9 +37,7 @@ impl Numbering {
             alike: Vec::new(alloc),
         }
     }
-}
 
-impl Numbering {
     /// The entries of the table.
     pub fn into_entries(self) -> Vec<[u8; ENTRY]> {
         let Numbering { entries, .. } = self;

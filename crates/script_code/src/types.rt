@@ -92,9 +92,7 @@ impl Types {
             members: Vec::new(alloc),
         })
     }
-}
 
-impl Types {
     pub fn len(&self) -> usize {
         self.shapes.len()
     }

@@ -57,9 +57,7 @@ impl Compiler {
             choices: Vec::new(alloc),
         }
     }
-}
 
-impl Compiler {
     pub fn mark(&self) -> Mark {
         Mark {
             emitter: self.emitter.mark(),

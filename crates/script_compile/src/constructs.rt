@@ -64,9 +64,7 @@ impl Constructs {
             list: Vec::new(alloc),
         }
     }
-}
 
-impl Constructs {
     pub fn len(&self) -> usize {
         self.list.len()
     }

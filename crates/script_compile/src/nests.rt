@@ -143,9 +143,7 @@ impl Nests {
             kept: Vec::new(alloc),
         }
     }
-}
 
-impl Nests {
     pub fn mark(&self) -> NestsMark {
         NestsMark {
             nests: self.nests.len(),

@@ -22,9 +22,7 @@ impl SeenNames {
             list: Vec::new(alloc),
         }
     }
-}
 
-impl SeenNames {
     /// Adds a name which ended. The name of a block that is compiled twice is seen twice.
     pub fn add(&mut self, name: &Name, trouble: &mut Trouble) {
         if matches!(name.meaning, Meaning::Hidden(_) | Meaning::Unknown) {

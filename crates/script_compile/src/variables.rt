@@ -36,9 +36,7 @@ impl Variables {
             noted: 0,
         }
     }
-}
 
-impl Variables {
     pub fn mark(&self) -> VariablesMark {
         VariablesMark {
             changes: self.changes.len(),
