@@ -9,7 +9,7 @@ use script_syntax::{
     ExpressionKind, Item, Range, SetOperator, Span, Statement, StatementKind, Tree, Type,
     UnaryOperator, Value, ValueKind,
 };
-use std::alloc::{AllocError, Global};
+use std::alloc::{AllocError, AllocFailed, Global};
 use std::mem;
 
 /// How deep statements and expressions of the core may be in each other. A statement counts for those that follow it too, since
@@ -55,6 +55,12 @@ struct Reader<'a> {
 
 impl From<AllocError> for Beyond {
     fn from(_: AllocError) -> Beyond {
+        Beyond::Memory
+    }
+}
+
+impl<T: Drop> From<AllocFailed<T>> for Beyond {
+    fn from(_: AllocFailed<T>) -> Beyond {
         Beyond::Memory
     }
 }
@@ -282,7 +288,7 @@ impl<'a> Reader<'a> {
 
     /// Code in a box.
     fn boxed(&self, code: Code) -> Result<Box<Code>, Beyond> {
-        Box::new(self.alloc, code).map_err(|_| Beyond::Memory)
+        Ok(Box::new(self.alloc, code)?)
     }
 
     /// No statements.
