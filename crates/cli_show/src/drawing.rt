@@ -5,7 +5,7 @@ ghost use Rattle.std.specs.Prelude.{◌<◌};
 use crate::lines::IndentedText;
 use crate::listing::{add_owner, root_of};
 use crate::objects::value_words;
-use crate::owners::{OwnedBlock, owned_blocks};
+use crate::owners::{OwnedBlock, owned_blocks, unowned_blocks};
 use crate::purpose::{COUNT, PURPOSES, Purpose};
 use crate::roots::{Root, roots};
 use cli_progress::Watch;
@@ -256,9 +256,9 @@ fn add_cells<F: Fit>(
     watch: &dyn Watch,
 ) -> Result<(), AllocError> {
     let alloc = lines.alloc();
-    let owned = owned_blocks(alloc, heap, &[], watch)?;
+    let blocks = unowned_blocks(alloc, heap.window(), watch)?;
     let count = units.div_ceil(scale.max(1));
-    let cells = cells(alloc, owned.as_slice(), count, scale.max(1))?;
+    let cells = cells(alloc, blocks.as_slice(), count, scale.max(1))?;
     add_cell_legend(lines, cells.as_slice(), scale);
     add_runs(lines, cells.as_slice(), scale);
     Ok(())
@@ -275,7 +275,7 @@ fn add_cell_legend(lines: &mut IndentedText, cells: &[PictureCell], scale: u32) 
 /// The cells of the picture, each of `scale` units.
 fn cells(
     alloc: Global,
-    owned: &[OwnedBlock],
+    blocks: &[OwnedBlock],
     count: u32,
     scale: u32,
 ) -> Result<Vec<PictureCell>, AllocError>
@@ -286,7 +286,7 @@ fn cells(
         units: 0,
     };
     let mut cells = Vec::from_elem(alloc, empty, count as usize)?;
-    for it in owned {
+    for it in blocks {
         paint(cells.as_mut_slice(), it, scale);
     }
     Ok(cells)

@@ -12,9 +12,10 @@ use std::alloc::{AllocError, Global};
 /// The length of the longest bar.
 const LONGEST_BAR: u32 = 32;
 
-/// The longest bars, of an allocated block and of a free one.
+/// The longest bar, of an allocated block.
 static ALLOCATED: [u8; LONGEST_BAR as usize] = [b'#'; LONGEST_BAR as usize];
 
+/// The longest bar, of a free block.
 static FREE: [u8; LONGEST_BAR as usize] = [b'.'; LONGEST_BAR as usize];
 
 /// A line for each block of the heap, in ascending order of position: its position in bytes, its size in units of 16 bytes, its
@@ -60,7 +61,7 @@ fn add_block(lines: &mut IndentedText, it: &OwnedBlock, roots: &[Root], largest:
 
 /// The object that a block belongs to.
 pub(crate) fn root_of<'a, 'b>(it: &OwnedBlock, roots: &'b [Root<'a>]) -> Option<&'b Root<'a>> {
-    roots.get(it.root?)
+    roots.get(it.root? as usize)
 }
 
 /// The length of the bar of a block with this many units: at least 1.

@@ -3,7 +3,7 @@ use crate::extent::Extent;
 use crate::roots::{Root, value_count};
 use crate::walk::{Met, ValueWalk, most_turns};
 use cli_progress::{Watch, Work};
-use seg_block::{Block, Fit, HEAP_START, Tag};
+use seg_block::{Block, Fit, HEAP_START, Tag, UNIT};
 use seg_manager::{Heap, Place, Type, Window};
 use std::alloc::{AllocError, Global};
 
@@ -14,11 +14,11 @@ pub(crate) struct OwnedBlock {
     /// `None` if the block is free.
     pub(crate) tag: Option<Tag>,
     /// The object's index in the list of objects.
-    pub(crate) root: Option<usize>,
+    pub(crate) root: Option<u32>,
 }
 
 /// How many bytes of the heap share an entry of the table of blocks.
-const PAGE: u32 = 1024;
+const PAGE: u32 = 256;
 
 /// The blocks of a segment's heap in ascending order of their positions, each with the object that it belongs to.
 pub(crate) fn owned_blocks<F: Fit>(
@@ -31,9 +31,11 @@ pub(crate) fn owned_blocks<F: Fit>(
     let mut claims = Claims {
         before: blocks_before(alloc, heap.window(), blocks.as_slice())?,
         blocks,
+        last: NO_BLOCK,
         walk: ValueWalk::new(alloc, Extent::All, Work::Mapping, value_count(roots)),
     };
-    for (index, root) in roots.iter().enumerate() {
+    for (root, index) in roots.iter().zip(0..u32::MAX) {
+        claims.last = NO_BLOCK;
         claim_object(heap, &mut claims, root, index, watch)?;
     }
     let Claims { blocks, .. } = claims;
@@ -41,7 +43,7 @@ pub(crate) fn owned_blocks<F: Fit>(
 }
 
 /// The blocks, each without an object.
-fn unowned_blocks(
+pub(crate) fn unowned_blocks(
     alloc: Global,
     w: &Window<Global>,
     watch: &dyn Watch,
@@ -62,15 +64,15 @@ fn blocks_before(
     alloc: Global,
     w: &Window<Global>,
     blocks: &[OwnedBlock],
-) -> Result<Vec<usize>, AllocError> {
+) -> Result<Vec<u32>, AllocError> {
     let mut before = Vec::new(alloc);
-    for (number, it) in blocks.iter().enumerate() {
-        before.resize(
-            page_of(it.block.at).saturating_add(1).max(before.len()),
-            number,
-        )?;
+    let mut count: u32 = 0;
+    for it in blocks {
+        let pages = page_of(it.block.at).saturating_add(1);
+        before.resize(pages.max(before.len()), count)?;
+        count = count.saturating_add(1);
     }
-    before.resize(page_of(w.len()).saturating_add(2), blocks.len())?;
+    before.resize(page_of(w.len()).saturating_add(2), count)?;
     Ok(before)
 }
 
@@ -79,19 +81,27 @@ fn page_of(at: u32) -> usize {
     (at.saturating_sub(HEAP_START) / PAGE) as usize
 }
 
+/// In place of a block.
+const NO_BLOCK: Block = Block { at: 0, units: 0 };
+
 /// Blocks that objects claim.
 #[derive(Drop)]
 struct Claims {
     blocks: Vec<OwnedBlock>,
     /// How many of the blocks begin before each page, and at last how many there are.
-    before: Vec<usize>,
+    before: Vec<u32>,
+    /// The block that the object claimed last. It often claims a block again, for the key and the value in a node.
+    last: Block,
     /// The walk through the objects that claim them.
     walk: ValueWalk,
 }
 
 impl Claims {
     /// Assigns to an object the block that contains a position, if there is one.
-    fn claim(&mut self, at: u32, index: usize) {
+    fn claim(&mut self, at: u32, index: u32) {
+        if contains(self.last, at) {
+            return;
+        }
         let page = page_of(at);
         let first = self.before_page(page).saturating_sub(1);
         let end = self.before_page(page.saturating_add(1));
@@ -99,12 +109,13 @@ impl Claims {
         if let Some(found) = block_around(near, at) {
             if let Some(block) = self.blocks.get_mut(first.saturating_add(found)) {
                 block.root = Some(index);
+                self.last = block.block;
             }
         }
     }
 
     fn before_page(&self, page: usize) -> usize {
-        self.before.get(page).copied().unwrap_or(0)
+        self.before.get(page).copied().unwrap_or(0) as usize
     }
 }
 
@@ -113,7 +124,7 @@ fn claim_object<F: Fit>(
     heap: &Heap<F, Global>,
     claims: &mut Claims,
     root: &Root,
-    index: usize,
+    index: u32,
     watch: &dyn Watch,
 ) -> Result<(), AllocError> {
     let size = heap.types().size(root.first.type_id);
@@ -128,7 +139,7 @@ fn claim_value<F: Fit>(
     heap: &Heap<F, Global>,
     claims: &mut Claims,
     value: Place,
-    index: usize,
+    index: u32,
     watch: &dyn Watch,
 ) -> Result<(), AllocError> {
     claim_blocks(heap, claims, value, index);
@@ -144,7 +155,7 @@ fn claim_value<F: Fit>(
 }
 
 /// Assigns to an object the block that contains a value, and the value's buffer.
-fn claim_blocks<F: Fit>(heap: &Heap<F, Global>, claims: &mut Claims, value: Place, index: usize) {
+fn claim_blocks<F: Fit>(heap: &Heap<F, Global>, claims: &mut Claims, value: Place, index: u32) {
     claims.claim(value.at, index);
     match heap.types().kind(value.type_id) {
         Some(Type::Str | Type::Vec(_) | Type::FlatMap(_)) => {
@@ -154,6 +165,12 @@ fn claim_blocks<F: Fit>(heap: &Heap<F, Global>, claims: &mut Claims, value: Plac
         Some(Type::List(_) | Type::Map(_) | Type::Own(_)) => {}
         Some(Type::I64 | Type::Struct(_) | Type::Shared(_)) | None => {}
     }
+}
+
+/// Whether a position is in a block.
+fn contains(block: Block, at: u32) -> bool {
+    at.checked_sub(block.at)
+        .is_some_and(|offset| offset / UNIT < block.units)
 }
 
 /// The last block that begins at or before a position.
