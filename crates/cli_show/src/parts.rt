@@ -1,6 +1,7 @@
 use seg_block::Fit;
 use seg_manager::{Heap, Place, Type, TypeId};
-use seg_map::{first_key, get, next_key};
+use seg_map::{first_key_by, get, next_key_by};
+use seg_rbtree::Path;
 use seg_seq::{at, next};
 use std::alloc::Global;
 
@@ -76,7 +77,12 @@ impl Parts {
         self.came.saturating_add(self.left)
     }
 
-    pub(crate) fn next<F: Fit>(&mut self, heap: &Heap<F, Global>) -> Option<ValuePart> {
+    /// The next part. The cursor is left at the key of a map, so that the next key is a step away.
+    pub(crate) fn next<F: Fit>(
+        &mut self,
+        heap: &Heap<F, Global>,
+        cursor: &mut Path,
+    ) -> Option<ValuePart> {
         self.left = self.left.checked_sub(1)?;
         let index = self.came;
         self.came = index.saturating_add(1);
@@ -85,7 +91,7 @@ impl Parts {
             Type::Struct(_) => self.field(heap, index),
             Type::Vec(t) => self.item(heap, index, t),
             Type::List(t) => self.list_item(heap, index, t),
-            Type::FlatMap(t) | Type::Map(t) => self.entry(heap, index, t),
+            Type::FlatMap(t) | Type::Map(t) => self.entry(heap, cursor, index, t),
             Type::Own(t) => Some(ValuePart::new(Selector::Content, heap.start(self.whole.at), t)),
         }
     }
@@ -121,32 +127,21 @@ impl Parts {
     fn entry<F: Fit>(
         &mut self,
         heap: &Heap<F, Global>,
+        cursor: &mut Path,
         index: u32,
         t: TypeId,
     ) -> Option<ValuePart> {
         self.key = match index {
-            0 => least_key(heap, self.whole)?,
-            1.. => key_after(heap, self.whole, self.key)?,
+            0 => first_key_by(heap, cursor, self.whole).ok()?,
+            1.. => next_key_by(heap, cursor, self.whole, self.key).ok()?,
         };
-        let value = value_of(heap, self.whole, self.key)?;
+        let value = get(heap, self.whole, self.key).ok()?;
         Some(ValuePart::new(Selector::Key(self.key), value, t))
     }
 }
 
 fn item_at<F: Fit>(heap: &Heap<F, Global>, whole: Place, index: u32) -> Option<u32> {
     at(heap, whole, index).ok()
-}
-
-fn least_key<F: Fit>(heap: &Heap<F, Global>, map: Place) -> Option<i64> {
-    first_key(heap, map).ok()
-}
-
-fn key_after<F: Fit>(heap: &Heap<F, Global>, map: Place, key: i64) -> Option<i64> {
-    next_key(heap, map, key).ok()
-}
-
-fn value_of<F: Fit>(heap: &Heap<F, Global>, map: Place, key: i64) -> Option<u32> {
-    get(heap, map, key).ok()
 }
 
 /// How many direct parts a value has.

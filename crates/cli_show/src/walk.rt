@@ -3,6 +3,7 @@ use crate::parts::{Parts, ValuePart};
 use cli_progress::{Pace, Watch, Work};
 use seg_block::Fit;
 use seg_manager::{Heap, MAX_TYPES, Place, Type};
+use seg_rbtree::Path;
 use std::alloc::{AllocError, Global};
 
 /// All of a walk, of which a watch is told how much is done.
@@ -33,6 +34,8 @@ pub(crate) enum Met {
 pub(crate) struct ValueWalk {
     /// The values on the path, the outermost first.
     open: Vec<Parts>,
+    /// Where the last key of a map was.
+    cursor: Path,
     extent: Extent,
     /// What the walk is for.
     work: Work,
@@ -49,6 +52,7 @@ impl ValueWalk {
     pub(crate) fn new(alloc: Global, extent: Extent, work: Work, count: u64) -> ValueWalk {
         ValueWalk {
             open: Vec::new(alloc),
+            cursor: Path::new(0),
             extent,
             work,
             count,
@@ -86,24 +90,23 @@ impl ValueWalk {
         watch: &dyn Watch,
     ) -> Result<Option<Met>, AllocError> {
         let level = self.open.len();
-        let Some(mut parts) = self.open.pop() else {
+        let Some(parts) = self.open.last_mut() else {
             return Ok(None);
         };
+        let whole = parts.whole();
         if parts.came() >= self.extent.parts() || level > self.extent.level() {
-            return Ok(Some(Met::End {
-                whole: parts.whole(),
-                level,
-                rest: parts.left(),
-            }));
+            let rest = parts.left();
+            self.open.truncate(level.saturating_sub(1));
+            return Ok(Some(Met::End { whole, level, rest }));
         }
-        let Some(part) = parts.next(heap) else {
+        let Some(part) = parts.next(heap, &mut self.cursor) else {
+            self.open.truncate(level.saturating_sub(1));
             return Ok(Some(Met::End {
-                whole: parts.whole(),
+                whole,
                 level,
                 rest: 0,
             }));
         };
-        self.open.push(parts)?;
         self.enter(heap, part.place, watch)?;
         Ok(Some(Met::Part { level, part }))
     }
