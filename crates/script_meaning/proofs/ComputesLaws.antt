@@ -1,5 +1,5 @@
 -- An operation that works out what an operator does has no parts.
-use Rattle.std.proofs.Common.{◌≡◌, ◌≢◌, ℕ, ℤ, pos, List, [], ◌∷◌, false, Option, Some, None, refl, sym, ◌∙◌, ap}
+use Rattle.std.proofs.Common.{◌≡◌, ◌≢◌, pos, [], ◌∷◌, false, Some, None, refl, sym, ◌∙◌, ap}
 use Rattle.client_spec.specs.declared.table.Operation.{Operation}
 use Rattle.client_spec.specs.declared.table.Operation.TheVariants as operation
 use Rattle.client_spec.specs.declared.table.Role.{Role}

@@ -208,11 +208,11 @@ module _ (c : Comparison) (old : Knowledge) (i : Instruction) (at : ℕ) where
 
       row : (m : Moment) (s s' : State) (code : Answer) → knowing c old m s → (plain_machine (texts_of c)).row i s code s'
           → (m' : Moment) × Stays m m' finished × (m'.world ≡ world_of s') × forgotten m' s'
-      row m s s' code known (inl w) = let h = (does m s s' code w.0 known w.1).1.0 in (m, (refl, refl), sym h.world, h)
+      row m s s' code known (inl w) = let h = (does m s s' code w.0 known w.1).1 in (m, (refl, refl), sym h.world, h)
       row m s s' code known (inr w) = absurd (let h = (does m s w.refused bad_alloc false known w.row).0 in cc)
 
       stop : (m : Moment) (s s' : State) → knowing c old m s → (plain_machine (texts_of c)).stop i s s' → (m' : Moment) × Stays m m' stopped × (m'.world ≡ world_of s')
-      stop m s s' known cut = absurd (not_cut s cut.whole.output cut.front cut.lost (does m s cut.whole success cut.room known cut.written).1.1 cut.bytes cut.proper)
+      stop m s s' known cut = absurd (not_cut s cut.whole.output cut.front cut.lost (does m s cut.whole success cut.room known cut.written).2 cut.bytes cut.proper)
 
 -- one FORGET
 pub forget_code : (c : Comparison) (old new : Knowledge) (i : Instruction) (at end : ℕ) → IsAt c at i → i.operation ≡ operation.Forget

@@ -1,29 +1,29 @@
 -- Code that finds objects.
-use Rattle.std.proofs.Common.{◌≡◌, ◌≢◌, ℕ, zero, suc, ◌<◌, ℤ, pos, List, [], ◌∷◌, ◌++◌, length, drop, Bool, Option, Some, None, slice_get, slice_set, ◌⊎◌, inl, inr, refl, sym, ◌∙◌, ap, subst, arith, eq-eqb, ne_eqb, true, false}
+use Rattle.std.proofs.Common.{◌≡◌, ◌≢◌, ℕ, zero, suc, ◌<◌, ℤ, List, [], ◌∷◌, ◌++◌, length, drop, Bool, Option, Some, None, slice_get, slice_set, ◌⊎◌, inl, inr, refl, sym, ◌∙◌, ap, subst, eq-eqb, ne_eqb, true, false}
 use Rattle.std.specs.Prelude.{◌==◌, if◌then◌else◌, slice_index_or}
 use Rattle.std.proofs.lemmas.Bool.{eqb-true, eqb-false}
-use Rattle.client_spec.specs.Syntax.{Constant, Instruction, Statement, plain, opener, loop, Statements, no_more, next}
+use Rattle.client_spec.specs.Syntax.{Constant, Instruction, plain, opener, Statements, no_more, next}
 use Rattle.client_spec.specs.declared.table.Operation.{Operation}
 use Rattle.client_spec.specs.declared.table.Operation.TheVariants as operation
 use Rattle.client_spec.specs.declared.table.Role.{Role}
 use Rattle.client_spec.specs.Operations.{row_of}
 use Rattle.client_spec.specs.Machine.{Register, State, register, set_register}
-use Rattle.client_spec.specs.Answer.{Answer, success, give}
+use Rattle.client_spec.specs.Answer.{Answer, success}
 use Rattle.client_spec.specs.Effect.{effect, outcome}
-use Rattle.client_spec.specs.Plain.{CutShort, plain_machine}
-use Rattle.client_spec.specs.Grammar.{mark, listing}
-use Rattle.client_spec.specs.Run.{Ending, finished, stopped, stuck, Run}
+use Rattle.client_spec.specs.Plain.{plain_machine}
+use Rattle.client_spec.specs.Grammar.{listing}
+use Rattle.client_spec.specs.Run.{Ending, finished, stuck, Run}
 use Rattle.client_spec.proofs.TypedStates.ValueLaws.{Some_inj}
 use Rattle.script_meaning.specs.declared.comparison.Comparison.{Comparison}
 use Rattle.script_meaning.specs.declared.program.Operator.{Operator}
-use Rattle.script_meaning.specs.Meaning.{World, world_of, Moment, with_variable, with_number, name_of, number_of, Setting, without, Found, Meaning, combined, Stays, Then, Changes, Stores, IfObject, Deletes}
-use Rattle.script_meaning.specs.Following.{Held, Holds, Tie, HasRoles, Simulates, IsCodeFor}
-use Rattle.script_meaning.specs.Comparing.{setting_of, code_of, texts_of, holding, Follows, IsAt, IsAbout, IsFree, HoldsNumber, Marks, ChangesPlace, OpensStore, OpensChange, OpensObject, Computes}
+use Rattle.script_meaning.specs.Meaning.{World, world_of, Moment, with_variable, with_number, name_of, number_of, Setting, without, Found, Meaning, combined, Changes, Stores, IfObject, Deletes}
+use Rattle.script_meaning.specs.Following.{Held, Holds, Tie, Simulates}
+use Rattle.script_meaning.specs.Comparing.{setting_of, code_of, texts_of, holding, Follows, IsAt, IsAbout, IsFree, HoldsNumber, Marks, OpensStore, OpensChange, OpensObject, Computes}
 use Rattle.script_meaning.proofs.SequenceLaws.{hidden_then, then_hidden, weaker, OneDoes, one_code}
-use Rattle.script_meaning.proofs.QuietRunLaws.{Quiet, Went, picked_good, picked_bad, not_cut, WentOn, plain_went, nothing_went, opener_went, OpenerAt, opener_spelled, plain_spelled, nothing_spelled}
-use Rattle.script_meaning.proofs.ObjectRowLaws.{place, Answered, answered, set_same, set_other, set_either, KeepsHeld, keeps_then, keeps_same, keeps_set, free_apart}
-use Rattle.script_meaning.proofs.ObjectRowLaws.{holds_after, first_number, number_there, Put, Loads, Refers, loads, load_quiet, StoresIn, stores_in, store_quiet}
-use Rattle.script_meaning.proofs.ObjectRowLaws.{Ready, Refused, Names, finds_or, find_quiet, IsFound, IsAbsent, finds, finds_quiet, Destroys, destroys, kill_quiet}
+use Rattle.script_meaning.proofs.QuietRunLaws.{Quiet, picked_good, picked_bad, not_cut, plain_went, nothing_went, opener_went, opener_spelled, plain_spelled, nothing_spelled}
+use Rattle.script_meaning.proofs.ObjectRowLaws.{place, answered, set_same, set_other, set_either, KeepsHeld, keeps_then, keeps_same, keeps_set, free_apart}
+use Rattle.script_meaning.proofs.ObjectRowLaws.{holds_after, first_number, number_there, Refers, loads, load_quiet, stores_in, store_quiet}
+use Rattle.script_meaning.proofs.ObjectRowLaws.{Ready, Refused, Names, finds_or, find_quiet, IsFound, IsAbsent, finds, finds_quiet, destroys, kill_quiet}
 use Rattle.script_meaning.proofs.ComputesLaws.{computes_plain, computes_no_freeze}
 
 -- ---- deleting

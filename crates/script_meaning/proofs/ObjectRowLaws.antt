@@ -15,7 +15,7 @@ use Rattle.client_spec.specs.Effect.{effect, outcome, find_or_add, item_of_objec
 use Rattle.client_spec.proofs.TypedStates.ValueLaws.{Some_inj, bind_some, length_set}
 use Rattle.client_spec.proofs.TypedStates.StateLaws.{name_there}
 use Rattle.client_spec.specs.Run.{Ending}
-use Rattle.script_meaning.specs.Meaning.{World, world_of, Moment, Setting, name_of, number_in, number_of, with_number, with_object, Meaning, Chosen, Changes, ByObject, Stores, Found, IfObject, without, Deletes}
+use Rattle.script_meaning.specs.Meaning.{World, world_of, Moment, Setting, name_of, number_in, number_of, with_number, with_object, Meaning, Chosen, Changes, ByObject, Stores, without}
 use Rattle.script_meaning.specs.Following.{Held, Holds}
 use Rattle.script_meaning.specs.Comparing.{IsFree}
 use Rattle.script_meaning.proofs.QuietRunLaws.{Quiet}

@@ -7,7 +7,6 @@ use Rattle.client_spec.specs.declared.table.Role.{Role}
 use Rattle.client_spec.specs.Operations.{row_of}
 use Rattle.client_spec.specs.Machine.{State}
 use Rattle.client_spec.specs.Answer.{Answer, success, is_zero, already_exists, bad_alloc, absent, other_type, out_of_range, null_or_none, numbers_used_up}
-use Rattle.client_spec.specs.Run as run
 use Rattle.client_spec.specs.Run.{Ending, finished, stuck, Way, picked, Performs, Run, RunOne}
 use Rattle.client_spec.specs.Plain.{plain_machine}
 use Rattle.client_spec.specs.Grammar.{mark, listing}

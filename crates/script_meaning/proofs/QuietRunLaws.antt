@@ -1,21 +1,16 @@
 -- Runs of instructions that write no output, and code with a success part and an else part.
-use Rattle.std.proofs.Common.{◌≡◌, ◌≢◌, ℕ, zero, suc, ◌+◌, ◌<◌, ℤ, pos, List, [], ◌∷◌, ◌++◌, drop, length, Bool, Option, Some, None, slice_get, ◌⊎◌, inl, inr, refl, sym, ◌∙◌, ap, subst, arith, append_assoc, length-append}
+use Rattle.std.proofs.Common.{◌≡◌, ◌≢◌, ℕ, zero, suc, ◌+◌, ◌<◌, List, [], ◌∷◌, ◌++◌, drop, length, Bool, Some, None, slice_get, ◌⊎◌, inl, inr, refl, sym, ◌∙◌, ap, subst, arith, append_assoc, length-append}
 use Rattle.std.proofs.lemmas.List.{append-nil}
 use Rattle.client_spec.proofs.TypedStates.ValueLaws.{Some_inj}
-use Rattle.client_spec.specs.Syntax.{Constant, Instruction, Statement, plain, opener, loop, Statements, no_more, next}
-use Rattle.client_spec.specs.declared.table.Operation.{Operation}
+use Rattle.client_spec.specs.Syntax.{Constant, Instruction, plain, opener, Statements, no_more, next}
 use Rattle.client_spec.specs.declared.table.Operation.TheVariants as operation
-use Rattle.client_spec.specs.declared.table.Role.{Role}
-use Rattle.client_spec.specs.Operations.{row_of}
 use Rattle.client_spec.specs.Machine.{State}
 use Rattle.client_spec.specs.Answer.{Answer, success}
 use Rattle.client_spec.specs.Effect.{outcome}
 use Rattle.client_spec.specs.Run.{Ending, finished, stopped, stuck, Way, Nothing, picked, Performs, Run, RunOne}
 use Rattle.client_spec.specs.Run as run
 use Rattle.client_spec.specs.Plain.{CutShort, plain_machine}
-use Rattle.client_spec.specs.Grammar.{mark, listing, listing_one}
-use Rattle.script_meaning.specs.Meaning.{Moment, world_of, Meaning}
-use Rattle.script_meaning.specs.Following.{Tie, HasRoles, Simulates, IsCodeFor}
+use Rattle.client_spec.specs.Grammar.{mark, listing}
 
 -- each row of the instruction in this state leaves the output as it is
 pub record Quiet (constants : List Constant) (i : Instruction) (s : State) : Type 0 where

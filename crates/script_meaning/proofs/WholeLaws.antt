@@ -1,18 +1,18 @@
 -- A client whose whole code does what a program says has its meaning.
-use Rattle.std.proofs.Common.{◌≡◌, ◌≢◌, ℕ, List, [], ◌∷◌, ◌++◌, length, drop, map, None, Some, slice_get, ◌⊎◌, inl, inr, refl, sym, ◌∙◌, ap, subst, arith}
+use Rattle.std.proofs.Common.{◌≡◌, ◌≢◌, ℕ, List, [], ◌∷◌, ◌++◌, length, drop, map, None, Some, slice_get, inl, inr, refl, sym, ◌∙◌, ap, subst}
 use Rattle.std.specs.Prelude.{⊤}
 use Rattle.std.proofs.lemmas.List.{append-nil, length-map}
 use Rattle.client_spec.specs.Types.{Form, form_at}
-use Rattle.client_spec.specs.Syntax.{Client, Statements}
+use Rattle.client_spec.specs.Syntax.{Client}
 use Rattle.client_spec.specs.Machine.{State}
-use Rattle.client_spec.specs.Run.{Ending, stuck, Run}
+use Rattle.client_spec.specs.Run.{Ending, Run}
 use Rattle.client_spec.specs.Plain.{plain_machine}
 use Rattle.client_spec.specs.Grammar.{listing, IsClient}
 use Rattle.script_meaning.specs.declared.program.Program.{Program}
 use Rattle.client_code.specs.Views.{instruction_of}
 use Rattle.script_meaning.specs.declared.program.Code.{Code}
 use Rattle.script_meaning.specs.declared.comparison.Comparison.{Comparison}
-use Rattle.script_meaning.specs.Meaning.{Setting, Moment, Does, Stays, world_of}
+use Rattle.script_meaning.specs.Meaning.{Does, Stays}
 use Rattle.script_meaning.specs.Following.{Held, Holds, HasMeaning, Means, first_moment}
 use Rattle.script_meaning.specs.Comparing.{setting_of, code_of, texts_of, holding, Follows, IsWhole}
 use Rattle.script_meaning.proofs.SequenceLaws.{then_hidden, weaker}

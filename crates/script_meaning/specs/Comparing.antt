@@ -1,5 +1,5 @@
 -- What the parts of a comparison find: where code begins that does what a statement says.
-use Rattle.std.specs.Prelude.{◌≡◌, ◌≢◌, ℕ, suc, ◌<◌, ℤ, pos, nat_abs, List, [], ◌∷◌, length, map, Bool, Option, Some, None, slice_get, slice_set, ◌⊎◌, ⊤}
+use Rattle.std.specs.Prelude.{◌≡◌, ◌≢◌, ℕ, suc, ◌<◌, ℤ, pos, nat_abs, List, [], length, map, Bool, Some, None, slice_get, ◌⊎◌, ⊤}
 use Rattle.client_spec.specs.Syntax.{Constant, Instruction}
 use Rattle.client_spec.specs.Syntax as syntax
 use Rattle.client_spec.specs.declared.table.Operation.{Operation}

@@ -3,7 +3,7 @@
 --     Holds held m s                       these registers contain these variables
 --     Simulates P does way Q               each run of the way does this, from P to Q
 --     IsCodeFor .. at end P does Q         the instructions from `at` to before `end` do this
-use Rattle.std.specs.Prelude.{⊤, ◌≡◌, ◌≢◌, ℕ, ◌<◌, ℤ, pos, List, [], ◌∷◌, ◌++◌, length, map, drop, Option, Some, None, slice_get, slice_index_or, ◌⊎◌}
+use Rattle.std.specs.Prelude.{⊤, ◌≡◌, ℕ, ℤ, pos, List, [], ◌∷◌, ◌++◌, length, map, drop, Option, Some, slice_get, slice_index_or, ◌⊎◌}
 use Rattle.client_spec.specs.Types.{Form, form_at}
 use Rattle.client_spec.specs.Syntax.{Constant, Instruction, Statement, plain, opener, loop, Statements, no_more, next, Client}
 use Rattle.client_spec.specs.declared.table.Role.{Role}
@@ -19,7 +19,7 @@ use Rattle.script_meaning.specs.declared.terms.Term.TheVariants as term
 use Rattle.script_meaning.specs.declared.program.Operator.{Operator}
 use Rattle.script_meaning.specs.declared.program.Operator.TheVariants as operator
 use Rattle.script_meaning.specs.declared.program.Program.{Program}
-use Rattle.script_meaning.specs.Meaning.{World, world_of, Moment, Setting, or_else, number_of, combined, Meaning, Does}
+use Rattle.script_meaning.specs.Meaning.{world_of, Moment, Setting, or_else, number_of, combined, Meaning, Does}
 
 -- ---- terms
 

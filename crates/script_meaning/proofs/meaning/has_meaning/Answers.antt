@@ -1,4 +1,4 @@
-use Rattle.std.proofs.Common.{◌≡◌, ◌≢◌, ◌∙◌, Ok, Some, true, map, ap, subst}
+use Rattle.std.proofs.Common.{◌≡◌, ◌∙◌, Ok, Some, true, map, ap, subst}
 use Rattle.client_spec.specs.Types.{Form, form_at}
 use Rattle.client_code.specs.Views.{instruction_of, constants_of}
 use Rattle.script_meaning.specs.declared.comparison.Comparison.{Comparison}

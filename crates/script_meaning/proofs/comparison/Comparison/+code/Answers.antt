@@ -7,7 +7,7 @@ use Rattle.script_meaning.specs.Following.{Held}
 use Rattle.script_meaning.specs.Comparing.{setting_of, code_of, texts_of, holding, HoldsNumber, Follows}
 use Rattle.script_meaning.proofs.SequenceLaws.{no_code, then_code}
 use Rattle.script_meaning.proofs.PartLaws.{if_law, while_law, cut_law}
-use Rattle.script_meaning.proofs.ObjectLaws.{store_law, change_law, object_law, delete_law}
+use Rattle.script_meaning.proofs.ObjectLaws.{store_law, change_law, object_law}
 use Rattle.script_meaning.proofs.ArmLaws.{arm_law, set_arm, same_code, loop_end}
 use Rattle.script_meaning.proofs.comparison.Comparison.+code.Goals as goal
 

@@ -1,13 +1,11 @@
 -- A KILL about the object, whose register is free, destroys the object.
-use Rattle.std.proofs.Common.{rules, ◌≡◌, ◌+◌, ◌<◌, ℕ, suc, sym, ap, subst, add-one, IfSome, Option, Some, None, true, false}
+use Rattle.std.proofs.Common.{rules, ◌≡◌, suc}
 use denote.Enum.Bare.{same_true}
 use Rattle.client_spec.specs.contracts.table.Operation.{the_type}
-use Rattle.client_spec.specs.declared.table.Operation.{Operation}
 use Rattle.client_spec.specs.declared.table.Operation.TheVariants as operation
 use Rattle.client_code.specs.Views.{instruction_of}
-use Rattle.script_meaning.specs.Meaning.{Stays, Deletes}
-use Rattle.script_meaning.specs.Following.{Held}
-use Rattle.script_meaning.specs.Comparing.{IsAt, IsAbout, setting_of, texts_of, code_of, holding, Follows}
+use Rattle.script_meaning.specs.Meaning.{Deletes}
+use Rattle.script_meaning.specs.Comparing.{setting_of, texts_of, code_of, holding, Follows}
 use Rattle.script_meaning.proofs.SequenceLaws.{hidden_then}
 use Rattle.script_meaning.proofs.AnswerLaws.{checked_next}
 use Rattle.script_meaning.proofs.ObjectLaws.{delete_law}

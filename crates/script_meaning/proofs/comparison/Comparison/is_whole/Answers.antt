@@ -1,4 +1,4 @@
-use Rattle.std.proofs.Common.{◌≡◌, length}
+use Rattle.std.proofs.Common.{length}
 use Rattle.std.proofs.lemmas.Bool.{eqb-true}
 use Rattle.script_meaning.proofs.WholeLaws.{whole_law}
 use Rattle.script_meaning.proofs.comparison.Comparison.is_whole.Goals as goal

@@ -1,9 +1,7 @@
 -- FIND about the object, and LOAD from it into a register that exists and contains no variable.
-use Rattle.std.proofs.Common.{rules, arith, ◌≡◌, ◌+◌, ◌<◌, ℕ, suc, length, refl, sym, ◌∙◌, ap, subst, add-one, IfSome, Option, Some, None, true, false}
+use Rattle.std.proofs.Common.{rules, arith, ◌≡◌, ℕ, suc, length, refl, ◌∙◌, ap, subst, add-one}
 use denote.Enum.Bare.{same_true}
 use Rattle.client_spec.specs.contracts.table.Operation.{the_type}
-use Rattle.client_spec.specs.declared.table.Operation.{Operation}
-use Rattle.client_spec.specs.declared.table.Operation.TheVariants as operation
 use Rattle.client_code.specs.Views.{instruction_of}
 use Rattle.script_meaning.specs.Comparing.{IsAt}
 use Rattle.script_meaning.proofs.AnswerLaws.{free_exists}

@@ -1,8 +1,7 @@
 -- FINDOR about the object, STORE and ELSE.
-use Rattle.std.proofs.Common.{rules, arith, ◌≡◌, ◌+◌, ◌<◌, ℕ, ℤ, suc, length, refl, sym, ◌∙◌, ap, subst, add-one, IfSome, Option, Some, None, true, false}
+use Rattle.std.proofs.Common.{rules, ◌≡◌, ℕ, ℤ, suc, ◌∙◌, ap, subst, add-one}
 use denote.Enum.Bare.{same_true}
 use Rattle.client_spec.specs.contracts.table.Operation.{the_type}
-use Rattle.client_spec.specs.declared.table.Operation.{Operation}
 use Rattle.client_spec.specs.declared.table.Operation.TheVariants as operation
 use Rattle.client_code.specs.Views.{instruction_of}
 use Rattle.client_spec.specs.Grammar.{mark}
