@@ -34,7 +34,7 @@ pub(crate) enum Met {
 pub(crate) struct ValueWalk {
     /// The values on the path, the outermost first.
     open: Vec<Parts>,
-    /// Where the last key of a map was.
+    /// The path to the last key of a map.
     cursor: Path,
     extent: Extent,
     /// What the walk is for.
