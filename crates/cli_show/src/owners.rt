@@ -90,7 +90,7 @@ struct Claims {
     blocks: Vec<OwnedBlock>,
     /// How many of the blocks begin before each page, and at last how many there are.
     before: Vec<u32>,
-    /// The block that the object claimed last. It often claims a block again, for the key and the value in a node.
+    /// The block that the object claimed last. All fields of a struct are in one block.
     last: Block,
     /// The walk through the objects that claim them.
     walk: ValueWalk,
