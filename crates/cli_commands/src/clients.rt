@@ -44,17 +44,17 @@ pub fn verify_file<'a, F: Files, O: Sink, E: Sink>(
     let image = opened(alloc, image, watch)?;
     let source = bytes.as_slice();
     let is_program = is_program(name);
-    let (client, meaning) = if explained && is_program {
+    let (client, is_shown) = if explained && is_program {
         let CoreClient { client, core } = compiled_core(alloc, name, source, image.types())?;
-        (client, meaning_line(core.is_some()))
+        (client, Some(core.is_some()))
     } else {
-        (client_of(alloc, name, source, image.types())?, "")
+        (client_of(alloc, name, source, image.types())?, None)
     };
     tell_warnings(&client.warnings, err);
     let text = if explained && (is_program || is_client_text(name, source)) {
         Some(Text {
             bytes: source,
-            meaning,
+            is_shown,
         })
     } else {
         None
@@ -66,8 +66,8 @@ pub fn verify_file<'a, F: Files, O: Sink, E: Sink>(
 #[derive(Clone, Copy)]
 struct Text<'a> {
     bytes: &'a [u8],
-    /// The line that tells whether the client of a program was shown to do what it says.
-    meaning: &'static str,
+    /// Whether the client of a program was shown to do what it says. `None` for an assembler text.
+    is_shown: Option<bool>,
 }
 
 /// Prints the most steps of a client, and what each line of its text or program costs if that is given.
@@ -86,7 +86,9 @@ fn verify_client<'a, O: Sink>(
     match text {
         Some(text) if !out.failed() => {
             let mut table = steps_of(alloc, text.bytes, client.lines.as_slice(), &verified)?;
-            table.push_str(text.meaning)?;
+            if let Some(is_shown) = text.is_shown {
+                table.push_str(meaning_line(is_shown))?;
+            }
             print(out, table.as_bytes())
         }
         _ => Ok(()),
