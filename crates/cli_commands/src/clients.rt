@@ -43,56 +43,70 @@ pub fn verify_file<'a, F: Files, O: Sink, E: Sink>(
     let bytes = read_file(alloc, files, name)?;
     let image = opened(alloc, image, watch)?;
     let source = bytes.as_slice();
-    let is_program = is_program(name);
-    let (client, is_shown) = if explained && is_program {
-        let CoreClient { client, core } = compiled_core(alloc, name, source, image.types())?;
-        (client, Some(core.is_some()))
-    } else {
-        (client_of(alloc, name, source, image.types())?, None)
-    };
-    tell_warnings(&client.warnings, err);
-    let text = if explained && (is_program || is_client_text(name, source)) {
-        Some(Text {
-            bytes: source,
-            is_shown,
-        })
-    } else {
-        None
-    };
-    verify_client(alloc, &image, &client, text, out)
+    let compared = compared_client(alloc, name, source, explained, &image)?;
+    tell_warnings(&compared.client.warnings, err);
+    let has_lines = is_program(name) || is_client_text(name, source);
+    verify_client(
+        alloc,
+        &image,
+        &compared,
+        source,
+        explained && has_lines,
+        out,
+    )
 }
 
-/// What a client was made of.
-#[derive(Clone, Copy)]
-struct Text<'a> {
-    bytes: &'a [u8],
-    /// Whether the client of a program was shown to do what it says. `None` for an assembler text.
+/// A client, and whether it was shown to do what its program says, if it is a program's and that was asked for.
+#[derive(Drop)]
+struct Compared {
+    client: Client,
     is_shown: Option<bool>,
 }
 
-/// Prints the most steps of a client, and what each line of its text or program costs if that is given.
+/// The client in a file with this name, for an image. If `explained`, the client of a program is compared with it.
+fn compared_client<'a>(
+    alloc: Global,
+    name: &str,
+    source: &[u8],
+    explained: bool,
+    image: &Image<Global>,
+) -> Result<Compared, Failure<'a>> {
+    if explained && is_program(name) {
+        let CoreClient { client, core } = compiled_core(alloc, name, source, image.types())?;
+        return Ok(Compared {
+            client,
+            is_shown: Some(core.is_some()),
+        });
+    }
+    Ok(Compared {
+        client: client_of(alloc, name, source, image.types())?,
+        is_shown: None,
+    })
+}
+
+/// Prints the most steps of a client, and if they are explained, what each line of its text or program costs.
 fn verify_client<'a, O: Sink>(
     alloc: Global,
     image: &Image<Global>,
-    client: &Client,
-    text: Option<Text<'_>>,
+    compared: &Compared,
+    source: &[u8],
+    is_explained: bool,
     out: &mut O,
 ) -> Result<(), Failure<'a>>
     requires works { O.has_failed out.old ≡ false }
 {
+    let client = &compared.client;
     let verified = verified(image, client.bytes.as_slice())?;
     let bound = verified.bound();
     print(out, format!(in alloc; "steps {bound}\n")?.as_bytes())?;
-    match text {
-        Some(text) if !out.failed() => {
-            let mut table = steps_of(alloc, text.bytes, client.lines.as_slice(), &verified)?;
-            if let Some(is_shown) = text.is_shown {
-                table.push_str(meaning_line(is_shown))?;
-            }
-            print(out, table.as_bytes())
-        }
-        _ => Ok(()),
+    if !is_explained || out.failed() {
+        return Ok(());
     }
+    let mut table = steps_of(alloc, source, client.lines.as_slice(), &verified)?;
+    if let Some(is_shown) = compared.is_shown {
+        table.push_str(meaning_line(is_shown))?;
+    }
+    print(out, table.as_bytes())
 }
 
 /// The line that tells whether the client of a program was shown to do what it says.
