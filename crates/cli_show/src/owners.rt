@@ -81,7 +81,7 @@ fn page_of(at: u32) -> usize {
     (at.saturating_sub(HEAP_START) / PAGE) as usize
 }
 
-/// In place of a block.
+/// A block that contains no position.
 const NO_BLOCK: Block = Block { at: 0, units: 0 };
 
 /// Blocks that objects claim.

@@ -113,7 +113,7 @@ impl<'a> Reader<'a> {
         Ok(joined(parts))
     }
 
-    /// Adds what a statement does to `parts`, which are before it.
+    /// Adds what a statement does to `parts`, to what the statements before it do.
     #[cycle(core)]
     fn statement(
         &mut self,
