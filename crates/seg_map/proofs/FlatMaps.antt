@@ -28,7 +28,8 @@ use Rattle.seg_value.proofs.Runs.{spaced_get, map_get}
 use Rattle.seg_cells.specs.Search.{IsBetween}
 use Rattle.seg_cells.specs.Entries.{IsEntryOf}
 use Rattle.seg_cells.specs.declared.entry.Entry.{Entry}
-use Rattle.seg_map.specs.Maps.{value_of, first_of, last_of, keys_above, lower_keys}
+use Rattle.seg_map.specs.declared.key_value.KeyValue.{KeyValue}
+use Rattle.seg_map.specs.Maps.{FindsEntry, value_of, first_of, last_of, keys_above, lower_keys}
 use Rattle.seg_map.proofs.KeyLaws.{Parted, parted_at, parted_front, parted_after, found_place, missing_place, missing_below, place_below, found_next, missing_next, parted_found, parted_missing, get_take, index_low, found_lower, missing_lower}
 
 -- ---- results
@@ -281,47 +282,53 @@ module _ (allocator : ℕ) (bytes : List ℕ) (table : Table) (place : Place) (U
   pub got_none : (key passed : ℤ) (r : Result ℕ ℕ) → passed ≡ key → Searched passed r → result_ok r ≡ None → key_place keys key ≡ None
   got_none key passed r same h none = found_none key r (subst (λ k. Searched k r) same h) none
 
-  pub read_key : (entry : Entry) (i count from at : ℕ) (x loaded : ℤ) → IsEntryOf table 8 U entry → count ≡ n → i < count → from ≡ start bytes place.at → at ≡ (from + i * entry.size) % 2 ^ 32
-      → loaded ≡ signed_long bytes at → x ≡ loaded → Some x ≡ slice_get keys i
-  read_key entry i count from at x loaded e count_is h from_is at_is loaded_is x_is =
+  -- the entry at an index, as the code reads it
+  pub read_entry : (entry : Entry) (i count from at : ℕ) (x loaded : ℤ) (found : KeyValue) → IsEntryOf table 8 U entry → count ≡ n → i < count → from ≡ start bytes place.at → at ≡ (from + i * entry.size) % 2 ^ 32
+      → loaded ≡ signed_long bytes at → x ≡ loaded → found.key ≡ x → found.value ≡ (from + i * entry.size + entry.before) % 2 ^ 32 → FindsEntry bytes table place U (slice_get keys i) (Some found)
+  read_entry entry i count from at x loaded found e count_is h from_is at_is loaded_is x_is key_same value_is =
       let there : at ≡ (start bytes place.at + i * each) % 2 ^ 32 = at_is ∙ rw (from_is, e.size_is) refl in
-      ap Some (x_is ∙ loaded_is ∙ ap (λ q. signed_long bytes q) there) ∙ sym (key_read i (omega arith))
+      let key_is : Some found.key ≡ slice_get keys i = ap Some (key_same ∙ x_is ∙ loaded_is ∙ ap (λ q. signed_long bytes q) there) ∙ sym (key_read i (omega arith)) in
+      record { key_is = key_is; leads = value_leads entry found.key i from found.value e from_is value_is (found_place keys found.key i (parted_at keys found.key i ascending (sym key_is))) }
 
-  pub read_none : (i count : ℕ) → count ≡ n → count ≤ i → None ≡ slice_get keys i
-  read_none i count count_is h = sym (no_key i (omega arith))
+  pub read_none : (i count : ℕ) → count ≡ n → count ≤ i → FindsEntry bytes table place U (slice_get keys i) None
+  read_none i count count_is h = record { key_is = sym (no_key i (omega arith)); leads = tt }
 
   -- the first key above another, by the result of a search
-  pub next_read : (key passed : ℤ) (i j : ℕ) (r : Result ℕ ℕ) (read : Option ℤ) → passed ≡ key → Searched passed r → r ≡ Ok i → j ≡ min (i + 1) 4294967295 → read ≡ slice_get keys j → read ≡ first_of (keys_above keys key)
-  next_read key passed i j r read same h is j_is read_is =
+  pub next_read : (key passed : ℤ) (i j : ℕ) (r : Result ℕ ℕ) → passed ≡ key → Searched passed r → r ≡ Ok i → j ≡ min (i + 1) 4294967295 → slice_get keys j ≡ first_of (keys_above keys key)
+  next_read key passed i j r same h is j_is =
       let at = found_at key i r (subst (λ k. Searched k r) same h) (ap result_ok is) in
       let below : i < n = subst (λ k. i < k) length_is (place_below keys key i at) in
       let large : 8 ≤ each = omega arith in
       let few = mul-le-mul_left i large in
       let next : j ≡ suc i = omega (arith, entry_small i below) in
-      read_is ∙ ap (slice_get keys) next ∙ sym (found_next keys key i (parted_found keys key i ascending at))
+      ap (slice_get keys) next ∙ sym (found_next keys key i (parted_found keys key i ascending at))
 
-  pub next_read_missing : (key passed : ℤ) (i : ℕ) (r : Result ℕ ℕ) (read : Option ℤ) → passed ≡ key → Searched passed r → r ≡ Err i → read ≡ slice_get keys i → read ≡ first_of (keys_above keys key)
-  next_read_missing key passed i r read same h is read_is =
+  pub next_read_missing : (key passed : ℤ) (i : ℕ) (r : Result ℕ ℕ) → passed ≡ key → Searched passed r → r ≡ Err i → slice_get keys i ≡ first_of (keys_above keys key)
+  next_read_missing key passed i r same h is =
       let none : (key_place keys key ≡ None) × (i ≡ keys_below keys key) = subst (Searched key) is (subst (λ k. Searched k r) same h) in
-      read_is ∙ sym (missing_next keys key i (parted_missing keys key i ascending none.0 none.1))
+      sym (missing_next keys key i (parted_missing keys key i ascending none.0 none.1))
 
   -- the last key before an index
-  pub read_before : (i j : ℕ) (read : Option ℤ) → j ≡ i - 1 → 1 ≤ i → i ≤ length keys → read ≡ slice_get keys j → read ≡ last_of (take i keys)
-  read_before i j read j_is some low read_is =
+  pub read_before : (i j : ℕ) → j ≡ i - 1 → 1 ≤ i → i ≤ length keys → slice_get keys j ≡ last_of (take i keys)
+  read_before i j j_is some low =
       let long : length (take i keys) ≡ i = length-take-le i keys low in
-      read_is ∙ ap (slice_get keys) j_is ∙ sym (get_take keys i (i - 1) (omega arith)) ∙ ap (λ n. slice_get (take i keys) (n - 1)) (sym long)
+      ap (slice_get keys) j_is ∙ sym (get_take keys i (i - 1) (omega arith)) ∙ ap (λ n. slice_get (take i keys) (n - 1)) (sym long)
 
-  pub read_last : (i : ℕ) (read : Option ℤ) → i ≡ n → (i ≤ length keys → read ≡ last_of (take i keys)) → read ≡ last_of keys
-  read_last i read i_is read_is =
+  pub none_before : (i : ℕ) → i ≡ 0 → FindsEntry bytes table place U (last_of (take i keys)) None
+  none_before i none = rw none (record { key_is = refl; leads = tt })
+
+  pub read_last : (i : ℕ) (found : Option KeyValue) → i ≡ n → (i ≤ length keys → FindsEntry bytes table place U (last_of (take i keys)) found) → FindsEntry bytes table place U (last_of keys) found
+  read_last i found i_is found_before =
       let all : take i keys ≡ keys = take_all i keys (omega (arith, length_is)) in
-      read_is (omega (arith, length_is)) ∙ ap last_of all
+      subst (λ ks. FindsEntry bytes table place U (last_of ks) found) all (found_before (omega (arith, length_is)))
 
   -- the last key below another, by the result of a search
-  pub previous_read : (key passed : ℤ) (i : ℕ) (r : Result ℕ ℕ) (read : Option ℤ) → passed ≡ key → Searched passed r → (r ≡ Ok i) ⊎ (r ≡ Err i) → (i ≤ length keys → read ≡ last_of (take i keys)) → read ≡ last_of (lower_keys keys key)
-  previous_read key passed i r read same h (inl is) read_is =
+  pub previous_read : (key passed : ℤ) (i : ℕ) (r : Result ℕ ℕ) (found : Option KeyValue) → passed ≡ key → Searched passed r → (r ≡ Ok i) ⊎ (r ≡ Err i)
+      → (i ≤ length keys → FindsEntry bytes table place U (last_of (take i keys)) found) → FindsEntry bytes table place U (last_of (lower_keys keys key)) found
+  previous_read key passed i r found same h (inl is) found_before =
       let p = parted_found keys key i ascending (found_at key i r (subst (λ k. Searched k r) same h) (ap result_ok is)) in
-      read_is (index_low keys key i (key ∷ []) p) ∙ ap last_of (sym (found_lower keys key i p))
-  previous_read key passed i r read same h (inr is) read_is =
+      subst (λ ks. FindsEntry bytes table place U (last_of ks) found) (sym (found_lower keys key i p)) (found_before (index_low keys key i (key ∷ []) p))
+  previous_read key passed i r found same h (inr is) found_before =
       let none : (key_place keys key ≡ None) × (i ≡ keys_below keys key) = subst (Searched key) is (subst (λ k. Searched k r) same h) in
       let p = parted_missing keys key i ascending none.0 none.1 in
-      read_is (index_low keys key i [] p) ∙ ap last_of (sym (missing_lower keys key i p))
+      subst (λ ks. FindsEntry bytes table place U (last_of ks) found) (sym (missing_lower keys key i p)) (found_before (index_low keys key i [] p))

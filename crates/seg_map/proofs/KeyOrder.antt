@@ -5,7 +5,7 @@ use Rattle.std.proofs.Common.{Option, Some, None, MatchOption, option_map, refl,
 use Rattle.std.specs.Prelude.{int_lt, slice_get, insert, remove, position, eqb}
 use Rattle.std.specs.List.{prefix_len}
 use Rattle.std.specs.List.{AllByRecursion}
-use Rattle.std.specs.Option.{option_or}
+use Rattle.std.specs.Option.{option_or, IfSome}
 use Rattle.std.specs.Ordering.{int_cmp, is_eq, is_lt, ordering_reverse, MatchOrdering}
 use Rattle.std.specs.Cmp.{int_cmp_is, int_ranks, int_cmp_total}
 use Rattle.std.specs.declared.cmp.Ordering.{Ordering}
@@ -79,6 +79,30 @@ last_of_more x (y ∷ ys) =
     let end : suc (suc (length ys)) - 1 ≡ suc (length ys) = omega arith in
     let end_of_rest : length ys ≡ suc (length ys) - 1 = omega arith in
     ap (slice_get (x ∷ y ∷ ys)) end ∙ sym (end_there y ys (Some x)) ∙ ap (λ n. option_or (slice_get (y ∷ ys) n) (Some x)) end_of_rest
+
+-- ---- the node of a search is among the nodes
+
+pub record HasNode (nodes : List ℕ) (node : ℕ) : Type 0 where
+  pub i : ℕ
+  pub node_is : slice_get nodes i ≡ Some node
+
+pub first_there : (p : ℕ → Bool) (nodes : List ℕ) → IfSome (first_where p nodes) (HasNode nodes)
+first_there p [] = tt
+first_there p (x ∷ xs) = go (p x) (first_where p xs) (first_there p xs)
+  where
+    go : (b : Bool) (o : Option ℕ) → IfSome o (HasNode xs) → IfSome (cond b (Some x) o) (HasNode (x ∷ xs))
+    go true o h = record { i = 0; node_is = refl }
+    go false None h = tt
+    go false (Some y) h = record { i = suc h.i; node_is = h.node_is }
+
+pub last_there : (p : ℕ → Bool) (nodes : List ℕ) → IfSome (last_where p nodes) (HasNode nodes)
+last_there p [] = tt
+last_there p (x ∷ xs) = subst (λ o. IfSome o (HasNode (x ∷ xs))) (sym (last_more p x xs)) (go (p x) (last_where p xs) (last_there p xs))
+  where
+    go : (b : Bool) (o : Option ℕ) → IfSome o (HasNode xs) → IfSome (option_or o (cond b (Some x) None)) (HasNode (x ∷ xs))
+    go b (Some y) h = record { i = suc h.i; node_is = h.node_is }
+    go true None h = record { i = 0; node_is = refl }
+    go false None h = tt
 
 -- ---- nodes and their numbers
 
@@ -216,6 +240,16 @@ module _ (f : ℕ → ℤ) where
 
   at_further : (k : ℤ) (x : ℕ) (xs : List ℕ) (node : ℕ) → same_int k (f x) ≡ false → AtPlace k xs node → AtPlace k (x ∷ xs) node
   at_further k x xs node e a = record { i = suc a.i; place_is = past (same_int k) (f x) (map f xs) e ∙ ap (option_map suc) a.place_is; node_is = a.node_is }
+
+  -- a node of the list has the index of its number, since the numbers ascend
+  pub own_place : (nodes : List ℕ) → Ascend by nodes → (i : ℕ) (node : ℕ) → slice_get nodes i ≡ Some node → AtPlace (f node) nodes node
+  own_place [] a i node e = cc
+  own_place (x ∷ xs) a zero node e =
+      let same : x ≡ node = cc in
+      subst (λ y. AtPlace (f y) (x ∷ xs) y) same (record { i = 0; place_is = here (same_int (f x)) (f x) (map f xs) (equals (f x) x (equal_self (f x))); node_is = refl })
+  own_place (x ∷ xs) a (suc i) node e =
+      let less : by x node ≡ Less = each_at (λ z. by x z ≡ Less) xs i node a.0 e in
+      at_further (f node) x xs node (differs (f node) x (λ same. let both : Less ≡ Equal = sym less ∙ same in cc)) (own_place xs a.1 i node e)
 
   pub found : (k : ℤ) (nodes : List ℕ) → MatchOption (first_where (λ x. is_eq (int_cmp (f x) k)) nodes) (key_place (map f nodes) k ≡ None) (AtPlace k nodes)
   found k [] = refl

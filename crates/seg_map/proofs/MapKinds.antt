@@ -13,7 +13,8 @@ use Rattle.seg_raw.specs.declared.code.Code.TheVariants as code
 use Rattle.seg_map.specs.declared.map.MapKind.TheVariants as kind
 use Rattle.seg_map.specs.EitherMap.{MapKindOf, IsMapOf, has_keys, key_asks, KeepsTreePaths, KeepsKeysBut}
 use Rattle.seg_map.specs.Trees.{NamesTree}
-use Rattle.seg_map.specs.Maps.{FindsValue, PutsKey, RemovesKey}
+use Rattle.seg_map.specs.declared.key_value.KeyValue.{KeyValue}
+use Rattle.seg_map.specs.Maps.{FindsValue, FindsEntry, PutsKey, RemovesKey}
 use Rattle.seg_spec.specs.Items.{key_place}
 use Rattle.seg_spec.specs.Value.{Values}
 use Rattle.seg_spec.specs.Reads.{Place}
@@ -157,6 +158,11 @@ pub found_by : (bytes : List ℕ) (table : Table) (place : Place) (U : ℕ) (key
     → FindsValue bytes table place U keys passed p → FindsValue bytes table place U keys key (result_ok r)
 found_by bytes table place U keys key passed same o p is r e r_is h =
     subst (FindsValue bytes table place U keys key) (sym (ok_again o r e r_is ∙ is)) (subst (λ k. FindsValue bytes table place U keys k p) same h)
+
+pub entry_by : (bytes : List ℕ) (table : Table) (place : Place) (U : ℕ) (key passed : Option ℤ) → passed ≡ key → (o p : Option KeyValue) → o ≡ p → (r : Result KeyValue Code) (e : Code) → r ≡ ok_or o e
+    → FindsEntry bytes table place U passed p → FindsEntry bytes table place U key (result_ok r)
+entry_by bytes table place U key passed same o p is r e r_is h =
+    subst (FindsEntry bytes table place U key) (sym (ok_again o r e r_is ∙ is)) (subst (λ k. FindsEntry bytes table place U k p) same h)
 
 pub puts_by : (allocator : ℕ) (old new : List ℕ) (table : Table) (place : Place) (U : ℕ) (keys : List ℤ) (vs : Values) (blocks : List ℕ) (o : Option Form) (form : Form) → o ≡ Some form → (key passed : ℤ) → passed ≡ key
     → (r : Result ℕ Code) → PutsKey allocator old new table place U keys vs passed blocks (key_asks old table place.at (Some form)) (key_place keys passed) r

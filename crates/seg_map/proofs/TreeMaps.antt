@@ -1,6 +1,6 @@
 -- A map as a tree with its keys and values, in the terms of the calls on nodes.
 use Rattle.std.proofs.Common.{◌≡◌, ℕ, ◌+◌, ◌*◌, ◌%◌, ◌^◌, ◌<◌, ◌≤◌, ℤ, true, List, [], ◌∷◌, ◌++◌, zero, suc, length, map, Option, Some, None, MatchOption, option_map, refl, sym, ap, ◌∙◌, subst, arith}
-use Rattle.std.specs.Prelude.{slice_get}
+use Rattle.std.specs.Prelude.{slice_get, IfSome}
 use Rattle.std.proofs.lemmas.List.{length-map}
 use Rattle.std.specs.List.{AllByRecursion}
 use Rattle.std.specs.Ordering.{int_cmp, is_eq, is_lt}
@@ -22,8 +22,11 @@ use Rattle.seg_spec.proofs.Values.PlaceWriteLaws.{owned_live}
 use Rattle.seg_spec.proofs.Heap.BlockCountLaws.{no_more, few_live}
 use Rattle.seg_spec.proofs.Values.PathFrameLaws.{each_at}
 use Rattle.seg_rbtree.specs.Sides.{last_where}
-use Rattle.seg_map.specs.Maps.{FindsValue, value_of, first_of, last_of, keys_above, lower_keys}
-use Rattle.seg_map.proofs.KeyOrder.{ascend_of, found, AtPlace, first_found, next_found, last_found, previous_found}
+use Rattle.seg_cells.specs.Entries.{IsEntryOf}
+use Rattle.seg_cells.specs.declared.entry.Entry.{Entry}
+use Rattle.seg_map.specs.declared.key_value.KeyValue.{KeyValue}
+use Rattle.seg_map.specs.Maps.{FindsValue, FindsEntry, value_of, first_of, last_of, keys_above, lower_keys}
+use Rattle.seg_map.proofs.KeyOrder.{ascend_of, found, AtPlace, HasNode, first_there, last_there, own_place, first_found, next_found, last_found, previous_found}
 
 -- the key of a node
 abbrev pub key_at : List ℕ → ℕ → ℤ
@@ -152,6 +155,25 @@ module _ (allocator : ℕ) (bytes : List ℕ) (table : Table) (place : Place) (U
       (rw label (ap (λ ks. key_place ks key) (keys_low bytes nodes low) ∙ a.place_is))
       (rw parts (mapped_at (value_of U) (map (λ p. p + 24) nodes) a.i (node + 24) (mapped_at (λ p. p + 24) nodes a.i node a.node_is))) here
 
+  -- the node of a search, if there is one, is among the nodes, and has this key
+  pub record FindsNode (key : Option ℤ) (node : Option ℕ) : Type 0 where
+    pub key_is : option_map (key_at bytes) node ≡ key
+    pub there : IfSome node (HasNode nodes)
+
+  pub no_entry : (key : Option ℤ) → FindsNode key None → FindsEntry bytes table place U key None
+  no_entry key h = record { key_is = h.key_is; leads = tt }
+
+  -- the entry of a node, as the code computes the position of its value
+  pub entry_of : (entry : Entry) (key : Option ℤ) (node : ℕ) (found : KeyValue) → IsEntryOf table 24 U entry → found.key ≡ key_at bytes node → found.value ≡ (node + entry.before) % 2 ^ 32
+      → FindsNode key (Some node) → FindsEntry bytes table place U key (Some found)
+  entry_of entry key node found e key_same value_is h =
+      let small = each_at (λ p. p + 8192 < 2 ^ 32) nodes h.there.i node low h.there.node_is in
+      let at : found.value ≡ node + 24 = let before = e.before_is in omega arith in
+      record {
+        key_is = ap Some key_same ∙ h.key_is;
+        leads = rw (key_same, at) (leads_to (key_at bytes node) node (own_place (key_at bytes) nodes ascend h.there.i node h.there.node_is));
+      }
+
   -- ---- the results of searches
 
   module _ (now : List ℕ) (root : ℕ) (same : now ≡ bytes) (root_is : root ≡ place.at) where
@@ -161,23 +183,39 @@ module _ (allocator : ℕ) (bytes : List ℕ) (table : Table) (place : Place) (U
     in_order : Ascend (λ x y. int_cmp (key_at now x) (key_at now y)) nodes
     in_order = rw same ascend
 
-    pub first_is : (o : Option ℕ) → ((shape : Tree) → IsSearchTree now root shape → o ≡ first_where (λ x. true) (nodes_of shape)) → option_map (key_at bytes) o ≡ first_of keys
-    first_is o e = ap (option_map (key_at bytes)) (e its.opens.tree there_too) ∙ first_found (key_at bytes) nodes ∙ ap first_of (sym keys_are)
+    pub first_is : (o : Option ℕ) → ((shape : Tree) → IsSearchTree now root shape → o ≡ first_where (λ x. true) (nodes_of shape)) → FindsNode (first_of keys) o
+    first_is o e =
+        let found_there : o ≡ first_where (λ x. true) nodes = e its.opens.tree there_too in
+        record {
+          key_is = ap (option_map (key_at bytes)) found_there ∙ first_found (key_at bytes) nodes ∙ ap first_of (sym keys_are);
+          there = rw found_there (first_there (λ x. true) nodes);
+        }
 
     pub next_is : (after : ℤ) (o : Option ℕ) → ((shape : Tree) → IsSearchTree now root shape → Ascend (λ x y. int_cmp (key_at now x) (key_at now y)) (nodes_of shape)
-        → o ≡ first_where (λ x. reaches Greater (int_cmp (key_at now x) after)) (nodes_of shape)) → option_map (key_at bytes) o ≡ first_of (keys_above keys after)
+        → o ≡ first_where (λ x. reaches Greater (int_cmp (key_at now x) after)) (nodes_of shape)) → FindsNode (first_of (keys_above keys after)) o
     next_is after o e =
         let found_there : o ≡ first_where (λ x. reaches Greater (int_cmp (key_at bytes x) after)) nodes = e its.opens.tree there_too in_order ∙ ap (λ bs. first_where (λ x. reaches Greater (int_cmp (key_at bs x) after)) nodes) same in
-        ap (option_map (key_at bytes)) found_there ∙ next_found (key_at bytes) after nodes ∙ ap (λ ks. first_of (keys_above ks after)) (sym keys_are)
+        record {
+          key_is = ap (option_map (key_at bytes)) found_there ∙ next_found (key_at bytes) after nodes ∙ ap (λ ks. first_of (keys_above ks after)) (sym keys_are);
+          there = rw found_there (first_there (λ x. reaches Greater (int_cmp (key_at bytes x) after)) nodes);
+        }
 
-    pub last_is : (o : Option ℕ) → ((shape : Tree) → IsSearchTree now root shape → o ≡ last_where (λ x. true) (nodes_of shape)) → option_map (key_at bytes) o ≡ last_of keys
-    last_is o e = ap (option_map (key_at bytes)) (e its.opens.tree there_too) ∙ last_found (key_at bytes) nodes ∙ ap last_of (sym keys_are)
+    pub last_is : (o : Option ℕ) → ((shape : Tree) → IsSearchTree now root shape → o ≡ last_where (λ x. true) (nodes_of shape)) → FindsNode (last_of keys) o
+    last_is o e =
+        let found_there : o ≡ last_where (λ x. true) nodes = e its.opens.tree there_too in
+        record {
+          key_is = ap (option_map (key_at bytes)) found_there ∙ last_found (key_at bytes) nodes ∙ ap last_of (sym keys_are);
+          there = rw found_there (last_there (λ x. true) nodes);
+        }
 
     pub previous_is : (before : ℤ) (o : Option ℕ) → ((shape : Tree) → IsSearchTree now root shape → Ascend (λ x y. int_cmp (key_at now x) (key_at now y)) (nodes_of shape)
-        → o ≡ last_where (λ x. is_lt (int_cmp (key_at now x) before)) (nodes_of shape)) → option_map (key_at bytes) o ≡ last_of (lower_keys keys before)
+        → o ≡ last_where (λ x. is_lt (int_cmp (key_at now x) before)) (nodes_of shape)) → FindsNode (last_of (lower_keys keys before)) o
     previous_is before o e =
         let found_there : o ≡ last_where (λ x. is_lt (int_cmp (key_at bytes x) before)) nodes = e its.opens.tree there_too in_order ∙ ap (λ bs. last_where (λ x. is_lt (int_cmp (key_at bs x) before)) nodes) same in
-        ap (option_map (key_at bytes)) found_there ∙ previous_found (key_at bytes) before nodes ∙ ap (λ ks. last_of (lower_keys ks before)) (sym keys_are)
+        record {
+          key_is = ap (option_map (key_at bytes)) found_there ∙ previous_found (key_at bytes) before nodes ∙ ap (λ ks. last_of (lower_keys ks before)) (sym keys_are);
+          there = rw found_there (last_there (λ x. is_lt (int_cmp (key_at bytes x) before)) nodes);
+        }
 
     value_by : (key : ℤ) (o : Option ℕ) → MatchOption o (key_place (map (key_at bytes) nodes) key ≡ None) (AtPlace (key_at bytes) key nodes)
         → FindsValue bytes table place U keys key (option_map (λ node. node + 24) o)

@@ -9,11 +9,14 @@
 --                                 the claim is true of each map of this form at a cell
 --     FindsValue bytes table map U keys key found
 --                                 the position of a key's value; none exactly if the map doesn't have the key
+--     FindsEntry bytes table map U key found
+--                                 the key, with the position of its value; none if there is no key
 --     AddsKey, PutsKey            a key was added to a map; the result of `put`
 --     TakesKey, RemovesKey        a key was removed from a map; the result of `remove`
 --     KeepsLowerKeys old new table map key
 --                                 paths through keys below another still reach the same places
-use Rattle.std.specs.Prelude.{◌≡◌, ◌-◌, ◌<ℤ◌, ℕ, Bool, true, false, ℤ, int_lt, List, [], ◌∷◌, length, filter, slice_get, Option, Some, None, MatchOption, Result, MatchResult}
+use Rattle.std.specs.Prelude.{◌≡◌, ◌-◌, ◌<ℤ◌, ℕ, Bool, true, false, ℤ, int_lt, List, [], ◌∷◌, length, filter, slice_get, Option, Some, None, IfSome, MatchOption, Result, MatchResult}
+use Rattle.std.specs.Option.{option_map}
 use Rattle.seg_spec.specs.Types.{Form, Table, form_at}
 use Rattle.seg_spec.specs.Value.{Value, Values, Map, Selector, nth, default_of}
 use Rattle.seg_spec.specs.Items.{key_place, keys_below, with_entry, without_entry}
@@ -27,6 +30,7 @@ use Rattle.seg_spec.specs.Shared.{named_in}
 use Rattle.seg_spec.specs.Growing.{Succeeds}
 use Rattle.seg_spec.specs.Owning.{Stands}
 use Rattle.seg_cells.specs.Places.{object_at}
+use Rattle.seg_map.specs.declared.key_value.KeyValue.{KeyValue}
 
 abbrev pub first_of : List ℤ → Option ℤ
 first_of keys = slice_get keys 0
@@ -55,6 +59,13 @@ WhereMap form allocator bytes table cell claim =
 abbrev pub FindsValue : List ℕ → Table → Place → ℕ → List ℤ → ℤ → Option ℕ → Type 0
 FindsValue bytes table map U keys key found = MatchOption found (key_place keys key ≡ None)
     (λ p. Leads bytes table map (Selector.key key ∷ []) (value_of U p))
+
+-- the key, if there is one, with the position of its value
+pub record FindsEntry (bytes : List ℕ) (table : Table) (map : Place) (U : ℕ) (key : Option ℤ)
+    (found : Option KeyValue) : Type 0 where
+  pub key_is : option_map (λ entry. entry.key) found ≡ key
+  pub leads : IfSome found (λ entry.
+      Leads bytes table map (Selector.key entry.key ∷ []) (value_of U entry.value))
 
 -- The map has one key more, with a default value at position p. Its other values stay.
 pub record AddsKey (allocator : ℕ) (old new : List ℕ) (table : Table) (map : Place) (U : ℕ)

@@ -9,8 +9,9 @@ ghost use Rattle.seg_spec.specs.Window.{KeepsHost};
 ghost use Rattle.seg_cells.specs.Places.{object_at};
 ghost use Rattle.seg_cells.specs.Entries.{IsEntryOf};
 ghost use Rattle.seg_value.specs.Entries.{NamesFlatMap, flat_asks};
-ghost use Rattle.seg_map.specs.Maps.{WhereMap, FindsValue, PutsKey, RemovesKey, KeepsLowerKeys, first_of, last_of, keys_above, lower_keys};
+ghost use Rattle.seg_map.specs.Maps.{WhereMap, FindsValue, FindsEntry, PutsKey, RemovesKey, KeepsLowerKeys, first_of, last_of, keys_above, lower_keys};
 
+use crate::key_value::KeyValue;
 use seg_raw::Code;
 use seg_value::{CellAt, Content, Entry, Fit, Heap, SegmentRead, ValueAt, binary_search};
 use std::alloc::Allocator;
@@ -122,84 +123,104 @@ pub(crate) fn remove<F: Fit, A: Allocator>(
     true
 }
 
-/// The key of the entry with this index, if the map has one.
-fn key_of<S: SegmentRead>(source: &S, entry: Entry, cell: CellAt, index: u32) -> Option<i64>
+/// The entry with this index, if the map has one.
+fn entry_at<S: SegmentRead>(source: &S, entry: Entry, cell: CellAt, index: u32) -> Option<KeyValue>
     ensures { WhereMap Form.flat_map (S.allocator source.now) (S.stored source.now).window.bytes
         (S.stored source.now).types cell
         (λ T U keys vs blocks. IsEntryOf (S.stored source.now).types 8 U entry →
-        result ≡ slice_get keys index) }
+        FindsEntry (S.stored source.now).window.bytes (S.stored source.now).types
+        (object_at cell T) U (slice_get keys index) result) }
 {
     if index < source.count(cell) {
-        Some(source.load(entry.at(source.start(cell), index)))
+        let entries = source.start(cell);
+        Some(KeyValue {
+            key: source.load(entry.at(entries, index)),
+            value: entry.value_at(entries, index),
+        })
     } else {
         None
     }
 }
 
 /// The least key.
-pub(crate) fn first_key<S: SegmentRead>(source: &S, entry: Entry, cell: CellAt) -> Option<i64>
+pub(crate) fn first_entry<S: SegmentRead>(
+    source: &S,
+    entry: Entry,
+    cell: CellAt,
+) -> Option<KeyValue>
     ensures { WhereMap Form.flat_map (S.allocator source.now) (S.stored source.now).window.bytes
         (S.stored source.now).types cell
         (λ T U keys vs blocks. IsEntryOf (S.stored source.now).types 8 U entry →
-        result ≡ first_of keys) }
+        FindsEntry (S.stored source.now).window.bytes (S.stored source.now).types
+        (object_at cell T) U (first_of keys) result) }
 {
-    key_of(source, entry, cell, 0)
+    entry_at(source, entry, cell, 0)
 }
 
 /// The least key above another.
 #[inline(never)]
-pub(crate) fn next_key<S: SegmentRead>(
+pub(crate) fn next_entry<S: SegmentRead>(
     source: &S,
     entry: Entry,
     cell: CellAt,
     after: i64,
-) -> Option<i64>
+) -> Option<KeyValue>
     ensures { WhereMap Form.flat_map (S.allocator source.now) (S.stored source.now).window.bytes
         (S.stored source.now).types cell
         (λ T U keys vs blocks. IsEntryOf (S.stored source.now).types 8 U entry →
-        result ≡ first_of (keys_above keys after)) }
+        FindsEntry (S.stored source.now).window.bytes (S.stored source.now).types
+        (object_at cell T) U (first_of (keys_above keys after)) result) }
 {
     let index = match search(source, entry, cell, after) {
         Ok(index) => index.saturating_add(1),
         Err(index) => index,
     };
-    key_of(source, entry, cell, index)
+    entry_at(source, entry, cell, index)
 }
 
-/// The key of the last entry before an index, if there is one.
-fn key_before<S: SegmentRead>(source: &S, entry: Entry, cell: CellAt, index: u32) -> Option<i64>
+/// The last entry before an index, if there is one.
+fn entry_before<S: SegmentRead>(
+    source: &S,
+    entry: Entry,
+    cell: CellAt,
+    index: u32,
+) -> Option<KeyValue>
     ensures { WhereMap Form.flat_map (S.allocator source.now) (S.stored source.now).window.bytes
         (S.stored source.now).types cell
         (λ T U keys vs blocks. IsEntryOf (S.stored source.now).types 8 U entry →
-        index ≤ length keys → result ≡ last_of (take index keys)) }
+        index ≤ length keys →
+        FindsEntry (S.stored source.now).window.bytes (S.stored source.now).types
+        (object_at cell T) U (last_of (take index keys)) result) }
 {
-    key_of(source, entry, cell, index.checked_sub(1)?)
+    entry_at(source, entry, cell, index.checked_sub(1)?)
 }
 
 /// The greatest key.
-pub(crate) fn last_key<S: SegmentRead>(source: &S, entry: Entry, cell: CellAt) -> Option<i64>
+pub(crate) fn last_entry<S: SegmentRead>(source: &S, entry: Entry, cell: CellAt) -> Option<KeyValue>
     ensures { WhereMap Form.flat_map (S.allocator source.now) (S.stored source.now).window.bytes
         (S.stored source.now).types cell
         (λ T U keys vs blocks. IsEntryOf (S.stored source.now).types 8 U entry →
-        result ≡ last_of keys) }
+        FindsEntry (S.stored source.now).window.bytes (S.stored source.now).types
+        (object_at cell T) U (last_of keys) result) }
 {
-    key_before(source, entry, cell, source.count(cell))
+    entry_before(source, entry, cell, source.count(cell))
 }
 
 /// The greatest key below another.
-pub(crate) fn previous_key<S: SegmentRead>(
+pub(crate) fn previous_entry<S: SegmentRead>(
     source: &S,
     entry: Entry,
     cell: CellAt,
     before: i64,
-) -> Option<i64>
+) -> Option<KeyValue>
     ensures { WhereMap Form.flat_map (S.allocator source.now) (S.stored source.now).window.bytes
         (S.stored source.now).types cell
         (λ T U keys vs blocks. IsEntryOf (S.stored source.now).types 8 U entry →
-        result ≡ last_of (lower_keys keys before)) }
+        FindsEntry (S.stored source.now).window.bytes (S.stored source.now).types
+        (object_at cell T) U (last_of (lower_keys keys before)) result) }
 {
     let index = match search(source, entry, cell, before) {
         Ok(index) | Err(index) => index,
     };
-    key_before(source, entry, cell, index)
+    entry_before(source, entry, cell, index)
 }

@@ -4,9 +4,12 @@
 #![tactic(auto)]
 
 mod flat;
+mod key_value;
 mod map;
 mod tree;
 
+pub use key_value::KeyValue;
 pub use map::{
-    first_key, first_key_by, get, last_key, len, next_key, next_key_by, previous_key, put, remove,
+    first_entry, first_entry_by, first_key, first_key_by, get, last_entry, last_key, len,
+    next_entry, next_entry_by, next_key, next_key_by, previous_entry, previous_key, put, remove,
 };

@@ -9,8 +9,9 @@ ghost use Rattle.seg_spec.specs.Window.{KeepsHost};
 ghost use Rattle.seg_cells.specs.Places.{place_of};
 ghost use Rattle.seg_rbtree.specs.Following.{LeadsInside};
 ghost use Rattle.seg_map.specs.EitherMap.{has_keys, IsMapOf, WhereMaps, key_asks, KeepsTreePaths, KeepsKeysBut};
-ghost use Rattle.seg_map.specs.Maps.{FindsValue, PutsKey, RemovesKey, first_of, last_of, keys_above, lower_keys};
+ghost use Rattle.seg_map.specs.Maps.{FindsValue, FindsEntry, PutsKey, RemovesKey, first_of, last_of, keys_above, lower_keys};
 
+use crate::key_value::KeyValue;
 use crate::{flat, tree};
 use seg_raw::Code;
 use seg_rbtree::Path;
@@ -129,6 +130,45 @@ pub fn remove<F: Fit, A: Allocator>(heap: &mut Heap<F, A>, map: Place, key: i64)
     }
 }
 
+/// The least key with the position of its value. `OtherType` if the place isn't a map, `Null` if the map is empty.
+pub fn first_entry<S: SegmentRead>(source: &S, map: Place) -> Result<KeyValue, Code>
+    ensures other { has_keys (form_at (S.stored source.now).types map.type_id) ≡ false →
+        result ≡ Err Code.OtherType }
+    ensures code { has_keys (form_at (S.stored source.now).types map.type_id) ≡ true →
+        IsOkUnless result Code.Null }
+    ensures first { WhereMaps (S.allocator source.now) (S.stored source.now).window.bytes
+        (S.stored source.now).types (place_of map)
+        (λ U keys vs blocks. FindsEntry (S.stored source.now).window.bytes
+        (S.stored source.now).types (place_of map) U (first_of keys) (result_ok result)) }
+{
+    let mut cursor = Path::new(map.at as usize);
+    first_entry_by(source, &mut cursor, map)
+}
+
+/// Like [`first_entry`]. In a tree map the cursor is left at the key.
+pub fn first_entry_by<S: SegmentRead>(
+    source: &S,
+    cursor: &mut Path,
+    map: Place,
+) -> Result<KeyValue, Code>
+    ensures other { has_keys (form_at (S.stored source.now).types map.type_id) ≡ false →
+        result ≡ Err Code.OtherType }
+    ensures code { has_keys (form_at (S.stored source.now).types map.type_id) ≡ true →
+        IsOkUnless result Code.Null }
+    ensures first { WhereMaps (S.allocator source.now) (S.stored source.now).window.bytes
+        (S.stored source.now).types (place_of map)
+        (λ U keys vs blocks. FindsEntry (S.stored source.now).window.bytes
+        (S.stored source.now).types (place_of map) U (first_of keys) (result_ok result)) }
+    ensures inside { LeadsInside (S.stored source.now).window.bytes cursor.old
+        → LeadsInside (S.stored source.now).window.bytes cursor.new }
+{
+    match MapKind::of(source, map)? {
+        MapKind::Flat(content) => flat::first_entry(source, content.entry, map.at),
+        MapKind::Tree(content) => tree::first_entry(source, content.entry, cursor, map.at),
+    }
+    .ok_or(Code::Null)
+}
+
 /// The least key. `OtherType` if the place isn't a map, `Null` if the map is empty.
 pub fn first_key<S: SegmentRead>(source: &S, map: Place) -> Result<i64, Code>
     ensures other { has_keys (form_at (S.stored source.now).types map.type_id) ≡ false →
@@ -139,8 +179,8 @@ pub fn first_key<S: SegmentRead>(source: &S, map: Place) -> Result<i64, Code>
         (S.stored source.now).types (place_of map)
         (λ U keys vs blocks. result_ok result ≡ first_of keys) }
 {
-    let mut cursor = Path::new(map.at as usize);
-    first_key_by(source, &mut cursor, map)
+    let entry = first_entry(source, map)?;
+    Ok(entry.key)
 }
 
 /// Like [`first_key`]. In a tree map the cursor is left at the key.
@@ -155,9 +195,50 @@ pub fn first_key_by<S: SegmentRead>(source: &S, cursor: &mut Path, map: Place) -
     ensures inside { LeadsInside (S.stored source.now).window.bytes cursor.old
         → LeadsInside (S.stored source.now).window.bytes cursor.new }
 {
+    let entry = first_entry_by(source, cursor, map)?;
+    Ok(entry.key)
+}
+
+/// The least key above another, which need not exist, with the position of its value. `OtherType` if the place isn't a
+/// map, `Null` if no key is above it.
+pub fn next_entry<S: SegmentRead>(source: &S, map: Place, after: i64) -> Result<KeyValue, Code>
+    ensures other { has_keys (form_at (S.stored source.now).types map.type_id) ≡ false →
+        result ≡ Err Code.OtherType }
+    ensures code { has_keys (form_at (S.stored source.now).types map.type_id) ≡ true →
+        IsOkUnless result Code.Null }
+    ensures next { WhereMaps (S.allocator source.now) (S.stored source.now).window.bytes
+        (S.stored source.now).types (place_of map)
+        (λ U keys vs blocks. FindsEntry (S.stored source.now).window.bytes
+        (S.stored source.now).types (place_of map) U (first_of (keys_above keys after))
+        (result_ok result)) }
+{
+    let mut cursor = Path::new(map.at as usize);
+    next_entry_by(source, &mut cursor, map, after)
+}
+
+/// Like [`next_entry`]. In a tree map the cursor is left at the key, so the following call is one step.
+pub fn next_entry_by<S: SegmentRead>(
+    source: &S,
+    cursor: &mut Path,
+    map: Place,
+    after: i64,
+) -> Result<KeyValue, Code>
+    ensures other { has_keys (form_at (S.stored source.now).types map.type_id) ≡ false →
+        result ≡ Err Code.OtherType }
+    ensures code { has_keys (form_at (S.stored source.now).types map.type_id) ≡ true →
+        IsOkUnless result Code.Null }
+    ensures next { LeadsInside (S.stored source.now).window.bytes cursor.old
+        → WhereMaps (S.allocator source.now) (S.stored source.now).window.bytes
+        (S.stored source.now).types (place_of map)
+        (λ U keys vs blocks. FindsEntry (S.stored source.now).window.bytes
+        (S.stored source.now).types (place_of map) U (first_of (keys_above keys after))
+        (result_ok result)) }
+    ensures inside { LeadsInside (S.stored source.now).window.bytes cursor.old
+        → LeadsInside (S.stored source.now).window.bytes cursor.new }
+{
     match MapKind::of(source, map)? {
-        MapKind::Flat(content) => flat::first_key(source, content.entry, map.at),
-        MapKind::Tree(_) => tree::first_key(source, cursor, map.at),
+        MapKind::Flat(content) => flat::next_entry(source, content.entry, map.at, after),
+        MapKind::Tree(content) => tree::next_entry(source, content.entry, cursor, map.at, after),
     }
     .ok_or(Code::Null)
 }
@@ -173,8 +254,8 @@ pub fn next_key<S: SegmentRead>(source: &S, map: Place, after: i64) -> Result<i6
         (S.stored source.now).types (place_of map)
         (λ U keys vs blocks. result_ok result ≡ first_of (keys_above keys after)) }
 {
-    let mut cursor = Path::new(map.at as usize);
-    next_key_by(source, &mut cursor, map, after)
+    let entry = next_entry(source, map, after)?;
+    Ok(entry.key)
 }
 
 /// Like [`next_key`]. In a tree map the cursor is left at the key, so the following call is one step.
@@ -195,9 +276,24 @@ pub fn next_key_by<S: SegmentRead>(
     ensures inside { LeadsInside (S.stored source.now).window.bytes cursor.old
         → LeadsInside (S.stored source.now).window.bytes cursor.new }
 {
+    let entry = next_entry_by(source, cursor, map, after)?;
+    Ok(entry.key)
+}
+
+/// The greatest key with the position of its value. `OtherType` if the place isn't a map, `Null` if the map is empty.
+pub fn last_entry<S: SegmentRead>(source: &S, map: Place) -> Result<KeyValue, Code>
+    ensures other { has_keys (form_at (S.stored source.now).types map.type_id) ≡ false →
+        result ≡ Err Code.OtherType }
+    ensures code { has_keys (form_at (S.stored source.now).types map.type_id) ≡ true →
+        IsOkUnless result Code.Null }
+    ensures last { WhereMaps (S.allocator source.now) (S.stored source.now).window.bytes
+        (S.stored source.now).types (place_of map)
+        (λ U keys vs blocks. FindsEntry (S.stored source.now).window.bytes
+        (S.stored source.now).types (place_of map) U (last_of keys) (result_ok result)) }
+{
     match MapKind::of(source, map)? {
-        MapKind::Flat(content) => flat::next_key(source, content.entry, map.at, after),
-        MapKind::Tree(_) => tree::next_key(source, cursor, map.at, after),
+        MapKind::Flat(content) => flat::last_entry(source, content.entry, map.at),
+        MapKind::Tree(content) => tree::last_entry(source, content.entry, map.at),
     }
     .ok_or(Code::Null)
 }
@@ -212,9 +308,26 @@ pub fn last_key<S: SegmentRead>(source: &S, map: Place) -> Result<i64, Code>
         (S.stored source.now).types (place_of map)
         (λ U keys vs blocks. result_ok result ≡ last_of keys) }
 {
+    let entry = last_entry(source, map)?;
+    Ok(entry.key)
+}
+
+/// The greatest key below another, which need not exist, with the position of its value. `OtherType` if the place isn't
+/// a map, `Null` if no key is below it.
+pub fn previous_entry<S: SegmentRead>(source: &S, map: Place, before: i64) -> Result<KeyValue, Code>
+    ensures other { has_keys (form_at (S.stored source.now).types map.type_id) ≡ false →
+        result ≡ Err Code.OtherType }
+    ensures code { has_keys (form_at (S.stored source.now).types map.type_id) ≡ true →
+        IsOkUnless result Code.Null }
+    ensures previous { WhereMaps (S.allocator source.now) (S.stored source.now).window.bytes
+        (S.stored source.now).types (place_of map)
+        (λ U keys vs blocks. FindsEntry (S.stored source.now).window.bytes
+        (S.stored source.now).types (place_of map) U (last_of (lower_keys keys before))
+        (result_ok result)) }
+{
     match MapKind::of(source, map)? {
-        MapKind::Flat(content) => flat::last_key(source, content.entry, map.at),
-        MapKind::Tree(_) => tree::last_key(source, map.at),
+        MapKind::Flat(content) => flat::previous_entry(source, content.entry, map.at, before),
+        MapKind::Tree(content) => tree::previous_entry(source, content.entry, map.at, before),
     }
     .ok_or(Code::Null)
 }
@@ -230,9 +343,6 @@ pub fn previous_key<S: SegmentRead>(source: &S, map: Place, before: i64) -> Resu
         (S.stored source.now).types (place_of map)
         (λ U keys vs blocks. result_ok result ≡ last_of (lower_keys keys before)) }
 {
-    match MapKind::of(source, map)? {
-        MapKind::Flat(content) => flat::previous_key(source, content.entry, map.at, before),
-        MapKind::Tree(_) => tree::previous_key(source, map.at, before),
-    }
-    .ok_or(Code::Null)
+    let entry = previous_entry(source, map, before)?;
+    Ok(entry.key)
 }

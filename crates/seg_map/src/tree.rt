@@ -21,9 +21,10 @@ ghost use Rattle.seg_rbtree.specs.Following.{LeadsInside};
 ghost use Rattle.seg_rbtree.proofs.Keys.{equal_to_one};
 ghost use Rattle.seg_cells.specs.Entries.{IsEntryOf};
 ghost use Rattle.seg_cells.specs.Places.{object_at};
-ghost use Rattle.seg_map.specs.Maps.{WhereMap, FindsValue, PutsKey, RemovesKey, first_of, last_of, keys_above, lower_keys};
+ghost use Rattle.seg_map.specs.Maps.{WhereMap, FindsValue, FindsEntry, PutsKey, RemovesKey, first_of, last_of, keys_above, lower_keys};
 ghost use Rattle.seg_map.specs.Trees.{VALUE, NamesTree, KeepsOtherKeys};
 
+use crate::key_value::KeyValue;
 use seg_raw::Code;
 use seg_rbtree::{NodeAt, NodeOrder, Path, TREE_WORDS, Tree, UniqueKeys};
 use seg_value::{CellAt, Content, Entry, Fit, Heap, SegmentRead, ValueAt, View};
@@ -172,53 +173,85 @@ pub(crate) fn remove<F: Fit, A: Allocator>(
     true
 }
 
+/// A node's key, with the position of its value.
+fn entry_at(view: View, entry: Entry, node: NodeAt) -> KeyValue
+    ensures key { result.key ≡ signed_long view.entry.bytes.now ((node + 16) % 2 ^ 32) }
+    ensures value { result.value ≡ (node + entry.before) % 2 ^ 32 }
+{
+    KeyValue {
+        key: key_of(view, node),
+        value: entry.value_at(node, 0),
+    }
+}
+
 /// The least key. The cursor is left at it.
-pub(crate) fn first_key<S: SegmentRead>(source: &S, cursor: &mut Path, cell: CellAt) -> Option<i64>
+pub(crate) fn first_entry<S: SegmentRead>(
+    source: &S,
+    entry: Entry,
+    cursor: &mut Path,
+    cell: CellAt,
+) -> Option<KeyValue>
     ensures first { WhereMap Form.map (S.allocator source.now) (S.stored source.now).window.bytes
-        (S.stored source.now).types cell (λ T U keys vs blocks. result ≡ first_of keys) }
+        (S.stored source.now).types cell
+        (λ T U keys vs blocks. IsEntryOf (S.stored source.now).types VALUE U entry
+        → FindsEntry (S.stored source.now).window.bytes (S.stored source.now).types
+        (object_at cell T) U (first_of keys) result) }
     ensures inside { LeadsInside (S.stored source.now).window.bytes cursor.new }
 {
     let view = source.view();
     let node = cursor.first(view, tree_of(cell))?;
-    Some(key_of(view, node))
+    Some(entry_at(view, entry, node))
 }
 
 /// The least key above another. The cursor is left at it. It takes one step if the cursor was at the other key.
-pub(crate) fn next_key<S: SegmentRead>(
+pub(crate) fn next_entry<S: SegmentRead>(
     source: &S,
+    entry: Entry,
     cursor: &mut Path,
     cell: CellAt,
     after: i64,
-) -> Option<i64>
+) -> Option<KeyValue>
     ensures next { LeadsInside (S.stored source.now).window.bytes cursor.old
         → WhereMap Form.map (S.allocator source.now) (S.stored source.now).window.bytes
         (S.stored source.now).types cell
-        (λ T U keys vs blocks. result ≡ first_of (keys_above keys after)) }
+        (λ T U keys vs blocks. IsEntryOf (S.stored source.now).types VALUE U entry
+        → FindsEntry (S.stored source.now).window.bytes (S.stored source.now).types
+        (object_at cell T) U (first_of (keys_above keys after)) result) }
     ensures inside { LeadsInside (S.stored source.now).window.bytes cursor.old
         → LeadsInside (S.stored source.now).window.bytes cursor.new }
 {
     let view = source.view();
     let node = cursor.next_after(view, tree_of(cell), &ByKey, after)?;
-    Some(key_of(view, node))
+    Some(entry_at(view, entry, node))
 }
 
 /// The greatest key.
-pub(crate) fn last_key<S: SegmentRead>(source: &S, cell: CellAt) -> Option<i64>
+pub(crate) fn last_entry<S: SegmentRead>(source: &S, entry: Entry, cell: CellAt) -> Option<KeyValue>
     ensures { WhereMap Form.map (S.allocator source.now) (S.stored source.now).window.bytes
-        (S.stored source.now).types cell (λ T U keys vs blocks. result ≡ last_of keys) }
+        (S.stored source.now).types cell
+        (λ T U keys vs blocks. IsEntryOf (S.stored source.now).types VALUE U entry
+        → FindsEntry (S.stored source.now).window.bytes (S.stored source.now).types
+        (object_at cell T) U (last_of keys) result) }
 {
     let view = source.view();
     let node = tree_of(cell).last(view)?;
-    Some(key_of(view, node))
+    Some(entry_at(view, entry, node))
 }
 
 /// The greatest key below another.
-pub(crate) fn previous_key<S: SegmentRead>(source: &S, cell: CellAt, before: i64) -> Option<i64>
+pub(crate) fn previous_entry<S: SegmentRead>(
+    source: &S,
+    entry: Entry,
+    cell: CellAt,
+    before: i64,
+) -> Option<KeyValue>
     ensures { WhereMap Form.map (S.allocator source.now) (S.stored source.now).window.bytes
         (S.stored source.now).types cell
-        (λ T U keys vs blocks. result ≡ last_of (lower_keys keys before)) }
+        (λ T U keys vs blocks. IsEntryOf (S.stored source.now).types VALUE U entry
+        → FindsEntry (S.stored source.now).window.bytes (S.stored source.now).types
+        (object_at cell T) U (last_of (lower_keys keys before)) result) }
 {
     let view = source.view();
     let node = tree_of(cell).last_below(view, &ByKey, before)?;
-    Some(key_of(view, node))
+    Some(entry_at(view, entry, node))
 }

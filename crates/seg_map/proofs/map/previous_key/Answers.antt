@@ -1,37 +1,15 @@
-use Rattle.std.proofs.Common.{rules, ◌≡◌, Ok, Err, w64, ap, ◌∙◌, subst}
+use Rattle.std.proofs.Common.{rules, ◌≡◌, Err, Some, ap, ◌∙◌, w64}
 use Rattle.std.proofs.lemmas.Int.{to_z-of_z}
 use Rattle.seg_map.specs.Maps.{last_of, lower_keys}
-use Rattle.seg_spec.specs.Types.{form_at}
-use Rattle.seg_raw.specs.declared.code.Code.TheVariants as code
-use Rattle.seg_map.specs.EitherMap.{MapKindOf}
-use Rattle.seg_map.proofs.MapKinds.{as_flat, as_tree, kind_keys, kind_none, ok_again, only_code}
 use Rattle.seg_map.proofs.map.previous_key.Goals as goal
-use Rattle.seg_map.proofs.map.previous_key.Goals.{in-Flat, in-Tree}
 
-pub returns : goal.returns
-returns g c =
-    let table = (g.S.SegmentRead.stored c.args.source.now).types in
-    let T = c.args.map.type_id in
-    record {
-      other = λ none. let k = kind_keys table T (form_at table T) c.in_ok-content.field-0 c.in_ok-content.ensures in absurd (cc);
-      code = λ keys. only_code c.match-branch-2.ok_or c.ok_or.result code.Null c.ok_or.ensures.value;
-      previous = λ U keys vs blocks m s. ok_again c.match-branch-2.ok_or c.ok_or.result code.Null c.ok_or.ensures.value ∙ elim c.match-branch-2.branch [
-        | in-Flat w ↦
-            let a = as_flat table T (form_at table T) w.in-Flat.content U (subst (λ k. MapKindOf table T (form_at table T) (Ok k)) w.in-Flat.is c.in_ok-content.ensures) m in
-            w.ok_or-is ∙ w.previous_key.ensures T U keys vs blocks a.0 s a.1.entry_is ∙ ap (λ k. last_of (lower_keys keys k)) (to_z-of_z w64 c.args.before c.ranges.before)
-        | in-Tree w ↦
-            let a = as_tree table T (form_at table T) w.in-Tree.field-0 U (subst (λ k. MapKindOf table T (form_at table T) (Ok k)) w.in-Tree.is c.in_ok-content.ensures) m in
-            w.ok_or-is ∙ w.previous_key-in-Tree.ensures T U keys vs blocks a.0 s ∙ ap (λ k. last_of (lower_keys keys k)) (to_z-of_z w64 c.args.before c.ranges.before)
-      ];
-    }
+pub returns-clause-previous : goal.returns-clause-previous
+returns-clause-previous g c = λ U keys vs blocks m s.
+    let found = c.in_ok-entry.ensures.previous U keys vs blocks m s in
+    ap Some (to_z-of_z w64 c.in_ok-entry.entry.key (search rules)) ∙ found.key_is ∙ ap (λ k. last_of (lower_keys keys k)) (to_z-of_z w64 c.args.before c.ranges.before)
 
-pub returns-in_err-content : goal.returns-in_err-content
-returns-in_err-content g c =
-    let e : c.from_residual.result ≡ Err c.in_err-content.field-0.0 = search rules in
-    let table = (g.S.SegmentRead.stored c.args.source.now).types in
-    let n = kind_none table c.args.map.type_id (form_at table c.args.map.type_id) c.in_err-content.field-0.0 c.in_err-content.ensures in
-    record {
-      other = λ none. e ∙ ap (λ x. Err x) n.code_is;
-      code = λ keys. let k = n.keys in absurd (cc);
-      previous = λ U keys vs blocks m s. absurd (n.no_map U m);
-    }
+pub returns-in_err-entry-clause-previous : goal.returns-in_err-entry-clause-previous
+returns-in_err-entry-clause-previous g c = λ U keys vs blocks m s.
+    let none : c.from_residual.result ≡ Err c.in_err-entry.field-0.0 = search rules in
+    let found = c.in_err-entry.ensures.previous U keys vs blocks m s in
+    rw none (found.key_is ∙ ap (λ k. last_of (lower_keys keys k)) (to_z-of_z w64 c.args.before c.ranges.before))

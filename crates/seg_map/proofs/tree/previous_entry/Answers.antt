@@ -1,0 +1,30 @@
+use Rattle.std.proofs.Common.{ℕ, List, w64, of_z, to_z, ◌+◌, ◌%◌, ◌^◌, ap, ◌∙◌, Some, None, subst}
+use Rattle.std.proofs.lemmas.Int.{to_z-of_z}
+use Rattle.seg_spec.specs.Bytes.{signed_long}
+use Rattle.seg_cells.specs.Places.{object_at}
+use Rattle.seg_map.specs.Maps.{last_of, lower_keys}
+use Rattle.seg_map.proofs.TreeMaps.{previous_is, FindsNode, no_entry, entry_of}
+use Rattle.seg_map.proofs.tree.previous_entry.Goals as goal
+
+pub returns-in_err-node : goal.returns-in_err-node
+returns-in_err-node g c = λ T U keys vs blocks f s e.
+    let stored = g.S.SegmentRead.stored c.args.source.now in
+    let allocator = g.S.SegmentRead.allocator c.args.source.now in
+    let found =
+    subst (λ k. FindsNode allocator stored.window.bytes stored.types (object_at c.args.cell T) U keys vs blocks f s (last_of (lower_keys keys k)) (None)) (to_z-of_z w64 c.args.before c.ranges.before)
+    (previous_is allocator stored.window.bytes stored.types (object_at c.args.cell T) U keys vs blocks f s
+    c.view-view.result.bytes.now c.tree_of.result.root c.view-view.ensures c.tree_of.ensures (to_z w64 (of_z w64 c.args.before)) None
+    (c.in_err-node.ensures tt)) in
+    rw c.from_residual.ensures (no_entry allocator stored.window.bytes stored.types (object_at c.args.cell T) U keys vs blocks f s _ found)
+
+pub returns : goal.returns
+returns g c = λ T U keys vs blocks f s e.
+    let stored = g.S.SegmentRead.stored c.args.source.now in
+    let allocator = g.S.SegmentRead.allocator c.args.source.now in
+    let found =
+    subst (λ k. FindsNode allocator stored.window.bytes stored.types (object_at c.args.cell T) U keys vs blocks f s (last_of (lower_keys keys k)) (Some c.in_ok-node.node)) (to_z-of_z w64 c.args.before c.ranges.before)
+    (previous_is allocator stored.window.bytes stored.types (object_at c.args.cell T) U keys vs blocks f s
+    c.view-view.result.bytes.now c.tree_of.result.root c.view-view.ensures c.tree_of.ensures (to_z w64 (of_z w64 c.args.before)) (Some c.in_ok-node.node)
+    (c.in_ok-node.ensures tt)) in
+    let key_is = c.entry_at.ensures.key ∙ ap (λ (bs : List ℕ). signed_long bs ((c.in_ok-node.node + 16) % 2 ^ 32)) c.view-view.ensures in
+    entry_of allocator stored.window.bytes stored.types (object_at c.args.cell T) U keys vs blocks f s c.args.entry _ c.in_ok-node.node c.entry_at.result e key_is c.entry_at.ensures.value found
