@@ -1,6 +1,6 @@
 use seg_block::Fit;
 use seg_manager::{Heap, Place, Type, TypeId};
-use seg_map::{first_key_by, get, next_key_by};
+use seg_map::{first_entry_by, next_entry_by};
 use seg_rbtree::Path;
 use seg_seq::{at, next};
 use std::alloc::Global;
@@ -131,12 +131,12 @@ impl Parts {
         index: u32,
         t: TypeId,
     ) -> Option<ValuePart> {
-        self.key = match index {
-            0 => first_key_by(heap, cursor, self.whole).ok()?,
-            1.. => next_key_by(heap, cursor, self.whole, self.key).ok()?,
+        let entry = match index {
+            0 => first_entry_by(heap, cursor, self.whole).ok()?,
+            1.. => next_entry_by(heap, cursor, self.whole, self.key).ok()?,
         };
-        let value = get(heap, self.whole, self.key).ok()?;
-        Some(ValuePart::new(Selector::Key(self.key), value, t))
+        self.key = entry.key;
+        Some(ValuePart::new(Selector::Key(entry.key), entry.value, t))
     }
 }
 
