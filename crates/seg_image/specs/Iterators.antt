@@ -7,6 +7,8 @@
 --     HasReturned segment U count iterator n
 --                                  it has returned the first n of `count` items of type U
 --     HasKeyed keys iterator n     it has returned the first n of these keys
+--     ReturnsEntry segment map U keys n result
+--                                  the key with this index and the place of its value, or none after the last
 --     NamesNext, ItemsNext, KeysNext, EntriesNext
 --                                  what `next` returns: the next one, or none after the last
 use Rattle.std.specs.Prelude.{◌≡◌, ⊤, ℕ, zero, suc, ◌+◌, ◌-◌, ◌≤◌, ℤ, false, List, length, Option, Some, None, IsSomeAnd, MatchOption, slice_get}
@@ -109,6 +111,12 @@ pub record IsMapEntry (segment : Stored) (map : Place) (U : ℕ) (keys : List �
   pub of_type : IsMapOf (form_at segment.types map.type_id) value.type_id
   pub finds : FindsValue segment.window.bytes segment.types (place_of map) U keys key
       (Some value.at)
+
+-- the key with index n and the place of its value, or none after the last
+pub record ReturnsEntry (segment : Stored) (map : Place) (U : ℕ) (keys : List ℤ) (n : ℕ)
+    (result : Option (ℤ × Place)) : Type 0 where
+  pub key_is : option_map (λ entry. entry.0) result ≡ slice_get keys n
+  pub value : MatchOption result ⊤ (λ entry. IsMapEntry segment map U keys entry.0 entry.1)
 
 pub record EntriesNext {S : Type 0} (allocator : S → ℕ) (stored : S → Stored) (old : Entries S)
     (result : Option (ℤ × Place)) (new : Entries S) : Type 0 where

@@ -16,6 +16,7 @@ pub use Rattle.seg_seq.specs.Sequences
 pub use Rattle.seg_seq.specs.Lists
 pub use Rattle.seg_map.specs.Maps
 pub use Rattle.seg_map.specs.EitherMap
+pub use Rattle.seg_map.specs.declared.key_value.KeyValue
 pub use Rattle.seg_layout.specs.Forms
 pub use Rattle.seg_value.specs.Place
 pub use Rattle.seg_value.specs.CellPlaces as CellPlaces

@@ -1,5 +1,6 @@
 -- The places that calls on an image take and return.
 --     found_position result       the position of the place that a call returned
+--     found_entry result          the key and the position of the entry that a call returned
 --     first_place T found         the place of the first value of an object that was found
 --     item_place table T i found  the place of the object's value at an index
 --     value_count found           the number of the object's values
@@ -26,12 +27,17 @@ use Rattle.seg_value.specs.Place.{Place}
 use Rattle.seg_value.specs.CellPlaces.{place_of}
 use Rattle.seg_value.specs.Stored.{Stored}
 use Rattle.seg_map.specs.EitherMap.{WhereMaps}
+use Rattle.seg_map.specs.declared.key_value.KeyValue.{KeyValue}
 use Rattle.seg_image.specs.declared.image.Image.{Image}
 use Rattle.seg_image.specs.Images.{allocator_of, bytes_in, types_of}
 
 abbrev pub found_position : Result Place Code → Result ℕ Code
 found_position (Ok place) = Ok place.at
 found_position (Err error) = Err error
+
+abbrev pub found_entry : Result (ℤ × Place) Code → Result KeyValue Code
+found_entry (Ok entry) = Ok (record { key = entry.0; value = entry.1.at })
+found_entry (Err error) = Err error
 
 -- ---- named objects
 

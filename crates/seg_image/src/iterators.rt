@@ -11,7 +11,7 @@ ghost use Rattle.seg_seq.specs.Lists.{HasList};
 ghost use Rattle.seg_seq.specs.Sequences.{HasItems, ShowsItem};
 ghost use Rattle.seg_manager.specs.NamedObjects.{DescribesRoot};
 ghost use Rattle.seg_manager.specs.Segments.{IsSegment};
-ghost use Rattle.seg_image.specs.Iterators.{item_before, NamesNext, ItemsNext, ShowsItemBefore, KeysNext, EntriesNext};
+ghost use Rattle.seg_image.specs.Iterators.{item_before, NamesNext, ItemsNext, ShowsItemBefore, KeysNext, EntriesNext, ReturnsEntry};
 ghost use Rattle.seg_image.specs.Places.{WhereMap};
 
 use crate::read::ImageRead;
@@ -166,9 +166,22 @@ impl<'a, S: SegmentRead> Iterator for Entries<'a, S> {
     ghost remaining = { λ entries. at_most entries.0.left };
 
     fn next(&mut self) -> Option<(i64, Place)> {
-        let (image, map) = (self.0.image, self.0.map);
-        let key = self.0.next()?;
-        let value = image.get(map, key).ok()?;
-        Some((key, value))
+        let left = self.0.left.checked_sub(1)?;
+        let entry = entry_after(self.0.image, self.0.map, self.0.last)?;
+        self.0.last = Some(entry.0);
+        self.0.left = left;
+        Some(entry)
+    }
+}
+
+/// The least key of a map above another one, or the least of all, with the place of its value.
+fn entry_after<S: SegmentRead>(image: &S, map: Place, last: Option<i64>) -> Option<(i64, Place)>
+    ensures { WhereMap (S.allocator image.now) (S.stored image.now) map
+        (λ U keys vs blocks. (n : ℕ) → n ≤ length keys →
+        last ≡ item_before keys n → ReturnsEntry (S.stored image.now) map U keys n result) }
+{
+    match last {
+        Some(key) => image.next_entry(map, key).ok(),
+        None => image.first_entry(map).ok(),
     }
 }

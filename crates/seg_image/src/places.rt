@@ -4,9 +4,10 @@ ghost use Rattle.seg_layout.specs.Forms.{form_of};
 ghost use Rattle.seg_seq.specs.Kinds.{HasNumbers};
 ghost use Rattle.seg_seq.specs.Sequences.{item_type};
 ghost use Rattle.seg_map.specs.EitherMap.{has_keys, IsMapOf};
-ghost use Rattle.seg_image.specs.Places.{found_position, is_list, object_type, shared_type};
+ghost use Rattle.seg_image.specs.Places.{found_position, found_entry, is_list, object_type, shared_type};
 
 use seg_layout::{MAX_TYPES, Type, TypeId};
+use seg_map::KeyValue;
 use seg_raw::Code;
 use seg_value::{Place, SegmentRead, ValueAt};
 
@@ -19,6 +20,22 @@ pub(crate) fn placed(position: Result<ValueAt, Code>, type_id: TypeId) -> Result
         at: position?,
         type_id,
     })
+}
+
+/// A key with the place of its value, from the entry that a call returned.
+pub(crate) fn placed_entry(
+    entry: Result<KeyValue, Code>,
+    type_id: TypeId,
+) -> Result<(i64, Place), Code>
+    ensures entry { found_entry result ≡ entry }
+    ensures of_type { IfOk result (λ entry. entry.1.type_id ≡ type_id) }
+{
+    let entry = entry?;
+    let value = Place {
+        at: entry.value,
+        type_id,
+    };
+    Ok((entry.key, value))
 }
 
 /// `OtherType` if the image doesn't have this type.

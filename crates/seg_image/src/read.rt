@@ -14,17 +14,17 @@ ghost use Rattle.seg_seq.specs.Kinds.{HasNumbers};
 ghost use Rattle.seg_seq.specs.Lists.{HasList};
 ghost use Rattle.seg_seq.specs.Sequences.{HasText, HasItems, item_type, IsPast, ShowsItem};
 ghost use Rattle.seg_map.specs.EitherMap.{has_keys, IsMapOf};
-ghost use Rattle.seg_map.specs.Maps.{FindsValue, first_of, last_of, keys_above, lower_keys};
+ghost use Rattle.seg_map.specs.Maps.{FindsValue, FindsEntry, first_of, last_of, keys_above, lower_keys};
 ghost use Rattle.seg_index.specs.Lists.{root_after};
 ghost use Rattle.seg_manager.specs.Segments.{IsSegment, unique_at};
 ghost use Rattle.seg_manager.specs.NamedObjects.{found_as, DescribesRoot};
-ghost use Rattle.seg_image.specs.Places.{found_position, first_place, item_place, value_count, is_counted, object_type, content_place, shared_type, frozen_place, FieldPlace, WhereMap};
+ghost use Rattle.seg_image.specs.Places.{found_position, found_entry, first_place, item_place, value_count, is_counted, object_type, content_place, shared_type, frozen_place, FieldPlace, WhereMap};
 ghost use Rattle.seg_image.specs.Iterators.{HasNamed, HasKeyed, HasReturned};
 
 use crate::iterators::{Entries, Items, Keys, Names};
 use crate::places::{
     expect_number, expect_numbers, expect_string, is_list_at, item_type_at, known, object_type_at,
-    placed, shared_type_at, type_at, value_type_at,
+    placed, placed_entry, shared_type_at, type_at, value_type_at,
 };
 use seg_layout::{Type, TypeId};
 use seg_manager::Named;
@@ -352,6 +352,23 @@ pub trait ImageRead: SegmentRead {
         seg_map::first_key(self, map)
     }
 
+    /// The least key with the place of its value. Fails as [`first_key`](ImageRead::first_key) does.
+    final fn first_entry(&self, map: Place) -> Result<(i64, Place), Code>
+        ensures of_type { IfOk result
+            (λ entry. IsMapOf (form_at (Self.stored self.now).types map.type_id) entry.1.type_id) }
+        ensures other { has_keys (form_at (Self.stored self.now).types map.type_id) ≡ false →
+            result ≡ Err Code.OtherType }
+        ensures code { has_keys (form_at (Self.stored self.now).types map.type_id) ≡ true →
+            IsOkUnless (found_entry result) Code.Null }
+        ensures first { WhereMap (Self.allocator self.now) (Self.stored self.now) map
+            (λ U keys vs blocks. FindsEntry (Self.stored self.now).window.bytes
+            (Self.stored self.now).types (place_of map) U (first_of keys)
+            (result_ok (found_entry result))) }
+    {
+        let value = value_type_at(self, map)?;
+        placed_entry(seg_map::first_entry(self, map), value)
+    }
+
     /// The least key above another one, which need not exist. `OtherType` if the place isn't a map, `Null` if there is
     /// no such key.
     final fn next_key(&self, map: Place, after: i64) -> Result<i64, Code>
@@ -363,6 +380,23 @@ pub trait ImageRead: SegmentRead {
             (λ U keys vs blocks. result_ok result ≡ first_of (keys_above keys after)) }
     {
         seg_map::next_key(self, map, after)
+    }
+
+    /// The least key above another one with the place of its value. Fails as [`next_key`](ImageRead::next_key) does.
+    final fn next_entry(&self, map: Place, after: i64) -> Result<(i64, Place), Code>
+        ensures of_type { IfOk result
+            (λ entry. IsMapOf (form_at (Self.stored self.now).types map.type_id) entry.1.type_id) }
+        ensures other { has_keys (form_at (Self.stored self.now).types map.type_id) ≡ false →
+            result ≡ Err Code.OtherType }
+        ensures code { has_keys (form_at (Self.stored self.now).types map.type_id) ≡ true →
+            IsOkUnless (found_entry result) Code.Null }
+        ensures next { WhereMap (Self.allocator self.now) (Self.stored self.now) map
+            (λ U keys vs blocks. FindsEntry (Self.stored self.now).window.bytes
+            (Self.stored self.now).types (place_of map) U (first_of (keys_above keys after))
+            (result_ok (found_entry result))) }
+    {
+        let value = value_type_at(self, map)?;
+        placed_entry(seg_map::next_entry(self, map, after), value)
     }
 
     /// The greatest key. `OtherType` if the place isn't a map, `Null` if the map is empty.
@@ -377,6 +411,23 @@ pub trait ImageRead: SegmentRead {
         seg_map::last_key(self, map)
     }
 
+    /// The greatest key with the place of its value. Fails as [`last_key`](ImageRead::last_key) does.
+    final fn last_entry(&self, map: Place) -> Result<(i64, Place), Code>
+        ensures of_type { IfOk result
+            (λ entry. IsMapOf (form_at (Self.stored self.now).types map.type_id) entry.1.type_id) }
+        ensures other { has_keys (form_at (Self.stored self.now).types map.type_id) ≡ false →
+            result ≡ Err Code.OtherType }
+        ensures code { has_keys (form_at (Self.stored self.now).types map.type_id) ≡ true →
+            IsOkUnless (found_entry result) Code.Null }
+        ensures last { WhereMap (Self.allocator self.now) (Self.stored self.now) map
+            (λ U keys vs blocks. FindsEntry (Self.stored self.now).window.bytes
+            (Self.stored self.now).types (place_of map) U (last_of keys)
+            (result_ok (found_entry result))) }
+    {
+        let value = value_type_at(self, map)?;
+        placed_entry(seg_map::last_entry(self, map), value)
+    }
+
     /// The greatest key below another one, which need not exist. `OtherType` if the place isn't a map, `Null` if there
     /// is no such key.
     final fn previous_key(&self, map: Place, before: i64) -> Result<i64, Code>
@@ -388,6 +439,24 @@ pub trait ImageRead: SegmentRead {
             (λ U keys vs blocks. result_ok result ≡ last_of (lower_keys keys before)) }
     {
         seg_map::previous_key(self, map, before)
+    }
+
+    /// The greatest key below another one with the place of its value. Fails as
+    /// [`previous_key`](ImageRead::previous_key) does.
+    final fn previous_entry(&self, map: Place, before: i64) -> Result<(i64, Place), Code>
+        ensures of_type { IfOk result
+            (λ entry. IsMapOf (form_at (Self.stored self.now).types map.type_id) entry.1.type_id) }
+        ensures other { has_keys (form_at (Self.stored self.now).types map.type_id) ≡ false →
+            result ≡ Err Code.OtherType }
+        ensures code { has_keys (form_at (Self.stored self.now).types map.type_id) ≡ true →
+            IsOkUnless (found_entry result) Code.Null }
+        ensures previous { WhereMap (Self.allocator self.now) (Self.stored self.now) map
+            (λ U keys vs blocks. FindsEntry (Self.stored self.now).window.bytes
+            (Self.stored self.now).types (place_of map) U (last_of (lower_keys keys before))
+            (result_ok (found_entry result))) }
+    {
+        let value = value_type_at(self, map)?;
+        placed_entry(seg_map::previous_entry(self, map, before), value)
     }
 
     /// The keys of a map in order. `OtherType` if the place isn't a map.
