@@ -245,6 +245,10 @@ $ new 4096 t4 t5
 M = construct m t
 first_key M => null
 last_key M => null
+first_entry M => null
+last_entry M => null
+next_entry M 0 => null
+previous_entry M 0 => null
 A = put M 3
 store A 6
 B = put M -5
@@ -263,6 +267,18 @@ last_key M => 4
 previous_key M 4 => 3
 previous_key M 0 => -5
 previous_key M -5 => null
+first_entry M: -5 -10
+next_entry M -5: 3 6
+next_entry M 0: 3 6
+next_entry M 4 => null
+last_entry M: 4 0
+previous_entry M 4: 3 6
+previous_entry M 0: -5 -10
+previous_entry M -5 => null
+first_entry A => type
+next_entry A 0 => type
+last_entry A => type
+previous_entry A 0 => type
 keys M: -5 3 4
 entries M: -5 -10 3 6 4 0
 remove M 3

@@ -3,7 +3,7 @@
 use crate::tests::answers::{Answer, count, flag, flag_or_code, number, place, size};
 use crate::tests::calls::{Call, is_written};
 use crate::tests::verbs::Verb;
-use seg_image::{CheckedImage, Code, Image, ImageRead, Named};
+use seg_image::{CheckedImage, Code, Image, ImageRead, Named, Place};
 use std::alloc::Global;
 
 /// Makes a call on an open image. Returns `None` if the call doesn't only read.
@@ -63,6 +63,14 @@ fn read_containers(image: &Image<Global>, call: &Call) -> Option<Answer> {
         Verb::LastKey => number(image.last_key(call.place)),
         Verb::NextKey => number(image.next_key(call.place, call.long())),
         Verb::PreviousKey => number(image.previous_key(call.place, call.long())),
+        Verb::FirstEntry => entry(image, image.first_entry(call.place), call.text),
+        Verb::LastEntry => entry(image, image.last_entry(call.place), call.text),
+        Verb::NextEntry => entry(image, image.next_entry(call.place, call.long()), call.text),
+        Verb::PreviousEntry => entry(
+            image,
+            image.previous_entry(call.place, call.long()),
+            call.text,
+        ),
         Verb::Keys => flag_or_code(are_keys(image, call)),
         Verb::Entries => flag_or_code(are_entries(image, call)),
         _ => return None,
@@ -134,6 +142,21 @@ fn are_entries(image: &Image<Global>, call: &Call) -> Result<bool, Code> {
         count = count.wrapping_add(2);
     }
     Ok(has_words(call.text, count))
+}
+
+/// Whether an entry of a map has the key and the number of a text.
+fn entry(image: &Image<Global>, found: Result<(i64, Place), Code>, text: &str) -> Answer {
+    flag_or_code(is_entry(image, found, text))
+}
+
+fn is_entry(
+    image: &Image<Global>,
+    found: Result<(i64, Place), Code>,
+    text: &str,
+) -> Result<bool, Code> {
+    let (key, value) = found?;
+    let number = ImageRead::load(image, value)?;
+    Ok(is_word(text, 0, key) && is_word(text, 1, number) && has_words(text, 2))
 }
 
 /// Whether an object is the one that a word describes: its name, its type, and the number of its values if there are several, as
