@@ -311,6 +311,7 @@ CALL(put_flat, lezgauri_put(of->values, of->place[FLAT_MAP], 7, &place))
 CALL(put, lezgauri_put(of->values, of->place[MAP], 7, &place))
 CALL(get, lezgauri_get(of->values, of->place[MAP], 7, &of->place[OWN]))
 CALL(next_key, lezgauri_next_key(of->values, of->place[MAP], NULL, &number))
+CALL(next_entry, lezgauri_next_entry(of->values, of->place[MAP], NULL, &number, &place))
 CALL(put_content, lezgauri_put_content(of->values, of->place[OWN], &place))
 CALL(content, lezgauri_content(of->values, of->place[OWN], &place))
 CALL(len, lezgauri_len(of->values, of->place[MAP], &len))
@@ -380,6 +381,7 @@ static const struct {
     {"lezgauri_put", put, LEZGAURI_STACK_RUN},
     {"lezgauri_get", get, LEZGAURI_STACK_READ},
     {"lezgauri_next_key", next_key, LEZGAURI_STACK_READ},
+    {"lezgauri_next_entry", next_entry, LEZGAURI_STACK_READ},
     {"lezgauri_put_content", put_content, LEZGAURI_STACK_RUN},
     {"lezgauri_content", content, LEZGAURI_STACK_READ},
     {"lezgauri_len", len, LEZGAURI_STACK_READ},

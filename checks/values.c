@@ -518,6 +518,11 @@ static void maps(lezgauri_handle *handle, uint32_t type)
     expect("next key of none", lezgauri_next_key(handle, map, NULL, &key), LEZGAURI_NO_VALUE);
     expect("previous key of none", lezgauri_previous_key(handle, map, NULL, &key), LEZGAURI_NO_VALUE);
     expect("next key of none: as before", (uint64_t)key, 7);
+    value = (lezgauri_place){7, type};
+    expect("next entry of none", lezgauri_next_entry(handle, map, NULL, &key, &value), LEZGAURI_NO_VALUE);
+    expect("previous entry of none", lezgauri_previous_entry(handle, map, NULL, &key, &value), LEZGAURI_NO_VALUE);
+    expect("next entry of none: as before", (uint64_t)key, 7);
+    expect("next entry of none: as before", is_same(value, (lezgauri_place){7, type}), 1);
     for (int i = 0; i < COUNT; i++) {
         int which = i * STEP % COUNT;
         expect("get, not yet", lezgauri_get(handle, map, keys[which], &value), LEZGAURI_ABSENT);
@@ -546,11 +551,36 @@ static void maps(lezgauri_handle *handle, uint32_t type)
         from = &key;
     }
     expect("previous key of the least", lezgauri_previous_key(handle, map, &key, &key), LEZGAURI_NO_VALUE);
+    from = NULL;
+    for (int i = 0; i < COUNT; i++) {
+        done("next entry", lezgauri_next_entry(handle, map, from, &key, &value));
+        expect("next entry: key", (uint64_t)key, (uint64_t)keys[i]);
+        expect("next entry: value", (uint64_t)number_at(handle, value), 2 * (uint64_t)i + 1);
+        from = &key;
+    }
+    other = value;
+    expect("next entry of the greatest", lezgauri_next_entry(handle, map, &key, &key, &value), LEZGAURI_NO_VALUE);
+    expect("next entry of the greatest: as before", (uint64_t)key, (uint64_t)keys[COUNT - 1]);
+    expect("next entry of the greatest: as before", is_same(value, other), 1);
+    from = NULL;
+    for (int i = COUNT; i-- > 0;) {
+        done("previous entry", lezgauri_previous_entry(handle, map, from, &key, &value));
+        expect("previous entry: key", (uint64_t)key, (uint64_t)keys[i]);
+        expect("previous entry: value", (uint64_t)number_at(handle, value), 2 * (uint64_t)i + 1);
+        from = &key;
+    }
+    expect("previous entry of the least", lezgauri_previous_entry(handle, map, &key, &key, &value), LEZGAURI_NO_VALUE);
     int64_t between = 500;
     done("next key of no key", lezgauri_next_key(handle, map, &between, &key));
     expect("next key of no key", (uint64_t)key, 1000);
     done("previous key of no key", lezgauri_previous_key(handle, map, &between, &key));
     expect("previous key of no key", (uint64_t)key, 0);
+    done("next entry of no key", lezgauri_next_entry(handle, map, &between, &key, &value));
+    expect("next entry of no key", (uint64_t)key, 1000);
+    expect("next entry of no key: value", (uint64_t)number_at(handle, value), 2 * (COUNT / 2 + 1) + 1);
+    done("previous entry of no key", lezgauri_previous_entry(handle, map, &between, &key, &value));
+    expect("previous entry of no key", (uint64_t)key, 0);
+    expect("previous entry of no key: value", (uint64_t)number_at(handle, value), 2 * (COUNT / 2) + 1);
     expect("remove, no such key", lezgauri_remove(handle, map, between), LEZGAURI_ABSENT);
     for (int i = 0; i < COUNT; i += 2) {
         done("remove", lezgauri_remove(handle, map, keys[i]));
@@ -571,6 +601,10 @@ static void maps(lezgauri_handle *handle, uint32_t type)
     expect("next key of a number", lezgauri_next_key(handle, value, &between, &key), LEZGAURI_OTHER_TYPE);
     expect("previous key of a number", lezgauri_previous_key(handle, value, NULL, &key), LEZGAURI_OTHER_TYPE);
     expect("previous key of a number", lezgauri_previous_key(handle, value, &between, &key), LEZGAURI_OTHER_TYPE);
+    expect("next entry of a number", lezgauri_next_entry(handle, value, NULL, &key, &other), LEZGAURI_OTHER_TYPE);
+    expect("next entry of a number", lezgauri_next_entry(handle, value, &between, &key, &other), LEZGAURI_OTHER_TYPE);
+    expect("previous entry of a number", lezgauri_previous_entry(handle, value, NULL, &key, &other), LEZGAURI_OTHER_TYPE);
+    expect("previous entry of a number", lezgauri_previous_entry(handle, value, &between, &key, &other), LEZGAURI_OTHER_TYPE);
     uint32_t status;
     do {
         status = lezgauri_put(handle, map, between++, &value);
@@ -780,6 +814,18 @@ static uint32_t make_previous_key(const given *g)
     int64_t before = g->index;
     return lezgauri_previous_key(g->handle, g->place, &before, g->result);
 }
+typedef uint32_t entry_call(const lezgauri_handle *handle, lezgauri_place map, const int64_t *from, int64_t *key, lezgauri_place *value);
+
+/* The place of the value follows the key. */
+static uint32_t make_entry(const given *g, const int64_t *from, entry_call *call)
+{
+    char *key = g->result;
+    return call(g->handle, g->place, from, (int64_t *)key, (lezgauri_place *)(key == NULL ? NULL : key + sizeof(int64_t)));
+}
+static uint32_t make_first_entry(const given *g) { return make_entry(g, NULL, lezgauri_next_entry); }
+static uint32_t make_last_entry(const given *g) { return make_entry(g, NULL, lezgauri_previous_entry); }
+static uint32_t make_next_entry(const given *g) { return make_entry(g, &(int64_t){g->index}, lezgauri_next_entry); }
+static uint32_t make_previous_entry(const given *g) { return make_entry(g, &(int64_t){g->index}, lezgauri_previous_entry); }
 static uint32_t make_content(const given *g) { return lezgauri_content(g->handle, g->place, g->result); }
 
 static uint32_t make_add_types(const given *g) { return lezgauri_add_types(g->handle, table, TYPES, NULL); }
@@ -823,6 +869,12 @@ typedef struct call {
     bool changes;
 } call;
 
+/* What the calls on entries return. */
+typedef struct entry {
+    int64_t key;
+    lezgauri_place value;
+} entry;
+
 #define RETURNS(type) sizeof(type), alignof(type)
 
 static const call calls[] = {
@@ -844,6 +896,10 @@ static const call calls[] = {
     {"last key", make_last_key, RETURNS(int64_t), false, false},
     {"next key", make_next_key, RETURNS(int64_t), false, false},
     {"previous key", make_previous_key, RETURNS(int64_t), false, false},
+    {"first entry", make_first_entry, RETURNS(entry), false, false},
+    {"last entry", make_last_entry, RETURNS(entry), false, false},
+    {"next entry", make_next_entry, RETURNS(entry), false, false},
+    {"previous entry", make_previous_entry, RETURNS(entry), false, false},
     {"content", make_content, RETURNS(lezgauri_place), false, false},
     {"add types", make_add_types, 0, 1, false, true},
     {"upgrade", make_upgrade, 0, 1, false, true},
@@ -992,6 +1048,16 @@ static void arguments(void)
     expect("next key, from a number that isn't aligned", lezgauri_next_key(handle, places[MAP], (int64_t *)((char *)keys + 4), &keys[1]),
            LEZGAURI_BAD_ARGUMENT);
     expect("next key, refused: as before", (uint64_t)keys[1], 7);
+    lezgauri_place value;
+    expect("next entry, from a number that isn't aligned",
+           lezgauri_next_entry(handle, places[MAP], (int64_t *)((char *)keys + 4), &keys[1], &value), LEZGAURI_BAD_ARGUMENT);
+    expect("next entry, no key", lezgauri_next_entry(handle, places[MAP], NULL, NULL, &value), LEZGAURI_BAD_ARGUMENT);
+    expect("next entry, no value", lezgauri_next_entry(handle, places[MAP], NULL, &keys[1], NULL), LEZGAURI_BAD_ARGUMENT);
+    expect("next entry, the value over the key",
+           lezgauri_next_entry(handle, places[MAP], NULL, &keys[1], (lezgauri_place *)((char *)keys + 4)), LEZGAURI_BAD_ARGUMENT);
+    expect("next entry, the value in the segment",
+           lezgauri_next_entry(handle, places[MAP], NULL, &keys[1], (lezgauri_place *)(memory + 704)), LEZGAURI_BAD_ARGUMENT);
+    expect("next entry, refused: as before", (uint64_t)keys[1], 7);
     lezgauri_fault fault = {.number = 7};
     expect("add types, null and a count", lezgauri_add_types(handle, NULL, 1, &fault), LEZGAURI_BAD_ARGUMENT);
     expect("add types, null and a count: number", fault.number, LEZGAURI_BAD_ARGUMENT);

@@ -117,8 +117,7 @@ static int count(int file, const void *memory)
     lock(file, LOCK_SH);
     done("read", lezgauri_read(memory, SIZE, &segment, NULL));
     done("find", lezgauri_find(segment, "table", TABLE, &table));
-    while (lezgauri_next_key(segment, table, after, &key) == LEZGAURI_OK) {
-        done("get", lezgauri_get(segment, table, key, &value));
+    while (lezgauri_next_entry(segment, table, after, &key, &value) == LEZGAURI_OK) {
         done("load", lezgauri_load(segment, value, &number));
         sum += number;
         values++;

@@ -29,6 +29,7 @@ pub use Rattle.seg_image.specs.Sequences
 pub use Rattle.seg_image.specs.Lists
 pub use Rattle.seg_image.specs.Maps
 pub use Rattle.seg_image.specs.EitherMap
+pub use Rattle.seg_image.specs.KeyValue
 pub use Rattle.seg_image.specs.Place
 pub use Rattle.seg_image.specs.CellPlaces
 pub use Rattle.seg_image.specs.declared.image.Image

@@ -100,6 +100,14 @@ uint32_t lezgauri_raw_next_key(const uint8_t *image, size_t len, kept_types *typ
                                int64_t *key);
 uint32_t lezgauri_raw_previous_key(const uint8_t *image, size_t len, kept_types *types, uint32_t at, uint32_t type, int64_t from,
                                    int64_t *key);
+uint32_t lezgauri_raw_first_entry(const uint8_t *image, size_t len, kept_types *types, uint32_t at, uint32_t type, int64_t *key,
+                                  lezgauri_place *value);
+uint32_t lezgauri_raw_last_entry(const uint8_t *image, size_t len, kept_types *types, uint32_t at, uint32_t type, int64_t *key,
+                                 lezgauri_place *value);
+uint32_t lezgauri_raw_next_entry(const uint8_t *image, size_t len, kept_types *types, uint32_t at, uint32_t type, int64_t from,
+                                 int64_t *key, lezgauri_place *value);
+uint32_t lezgauri_raw_previous_entry(const uint8_t *image, size_t len, kept_types *types, uint32_t at, uint32_t type, int64_t from,
+                                     int64_t *key, lezgauri_place *value);
 uint32_t lezgauri_raw_content(const uint8_t *image, size_t len, kept_types *types, uint32_t at, uint32_t type,
                               lezgauri_place *content);
 
@@ -1212,6 +1220,38 @@ uint32_t lezgauri_previous_key(const lezgauri_handle *handle, lezgauri_place map
         return end(handle, lezgauri_raw_last_key(SEGMENT(handle), map.at, map.type, key));
     }
     return end(handle, lezgauri_raw_previous_key(SEGMENT(handle), map.at, map.type, *before, key));
+}
+
+/* As begin_key. The export writes the key and the place of its value, so they must not overlap. */
+static uint32_t begin_entry(const lezgauri_handle *handle, const int64_t *from, const int64_t *key, const lezgauri_place *value)
+{
+    return begin_read(handle, may_tell(from, _Alignof(int64_t)) && may_return(handle, key, sizeof *key, _Alignof(int64_t)) &&
+                                  may_return_place(handle, value) && !overlap(one(key, sizeof *key), one(value, sizeof *value)));
+}
+
+uint32_t lezgauri_next_entry(const lezgauri_handle *handle, lezgauri_place map, const int64_t *after, int64_t *key, lezgauri_place *value)
+{
+    uint32_t status = begin_entry(handle, after, key, value);
+    if (status != LEZGAURI_OK) {
+        return status;
+    }
+    if (after == NULL) {
+        return end(handle, lezgauri_raw_first_entry(SEGMENT(handle), map.at, map.type, key, value));
+    }
+    return end(handle, lezgauri_raw_next_entry(SEGMENT(handle), map.at, map.type, *after, key, value));
+}
+
+uint32_t lezgauri_previous_entry(const lezgauri_handle *handle, lezgauri_place map, const int64_t *before, int64_t *key,
+                                 lezgauri_place *value)
+{
+    uint32_t status = begin_entry(handle, before, key, value);
+    if (status != LEZGAURI_OK) {
+        return status;
+    }
+    if (before == NULL) {
+        return end(handle, lezgauri_raw_last_entry(SEGMENT(handle), map.at, map.type, key, value));
+    }
+    return end(handle, lezgauri_raw_previous_entry(SEGMENT(handle), map.at, map.type, *before, key, value));
 }
 
 /* ---- changing */

@@ -455,6 +455,13 @@ uint32_t lezgauri_next_key(const lezgauri_handle *handle, lezgauri_place map, co
 /* Like lezgauri_next_key, but the greatest key that is below *before, or the greatest key of all. */
 uint32_t lezgauri_previous_key(const lezgauri_handle *handle, lezgauri_place map, const int64_t *before, int64_t *key);
 
+/* Like lezgauri_next_key, and returns the place of the key's value too. */
+uint32_t lezgauri_next_entry(const lezgauri_handle *handle, lezgauri_place map, const int64_t *after, int64_t *key, lezgauri_place *value);
+
+/* Like lezgauri_previous_key, and returns the place of the key's value too. */
+uint32_t lezgauri_previous_entry(const lezgauri_handle *handle, lezgauri_place map, const int64_t *before, int64_t *key,
+                                 lezgauri_place *value);
+
 /*
  * The place of the object of an own, or of the frozen object of a shared. LEZGAURI_NO_VALUE if it is null. Nothing in a frozen object may be
  * changed: other cells may point to it, and the image may no longer be sound.

@@ -912,9 +912,9 @@ struct entry_source {
     std::uint32_t next(Item &entry) noexcept
     {
         place found{};
-        std::uint32_t number = lezgauri_next_key(handle, map, std::exchange(is_first, false) ? nullptr : &entry.key, &entry.key);
+        const std::int64_t *after = std::exchange(is_first, false) ? nullptr : &entry.key;
+        const std::uint32_t number = lezgauri_next_entry(handle, map, after, &entry.key, &found);
         if (number == LEZGAURI_OK) {
-            number = lezgauri_get(handle, map, entry.key, &found);
             entry.value = Value(handle, found);
         }
         return number;

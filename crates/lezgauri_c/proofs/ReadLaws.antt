@@ -1,5 +1,5 @@
 -- What a reader of an image finds, with the types that C keeps, and how calls report it.
-use Rattle.std.proofs.Common.{◌≡◌, ℕ, true, List, Option, Some, None, Result, Ok, Err, inl, inr, refl, sym, ap, ◌∙◌, subst}
+use Rattle.std.proofs.Common.{◌≡◌, ℕ, ℤ, true, List, Option, Some, None, Result, Ok, Err, inl, inr, refl, sym, ap, ◌∙◌, subst}
 use Rattle.std.specs.Prelude.{IsOkUnless, MatchResult}
 use Rattle.std.specs.Option.{ok_or}
 use Rattle.std.specs.Result.{result_ok}
@@ -10,11 +10,12 @@ use Rattle.seg_raw.specs.declared.code.Code.{Code}
 use Rattle.lezgauri.specs.Place.{Place}
 use Rattle.lezgauri.specs.EitherMap.{has_keys, IsMapOf}
 use Rattle.seg_manager.specs.Segments.{IsSegment}
-use Rattle.lezgauri.specs.Places.{found_position}
+use Rattle.lezgauri.specs.KeyValue.{KeyValue}
+use Rattle.lezgauri.specs.Places.{found_position, found_entry}
 use Rattle.lezgauri_c.specs.declared.place.Place as told
 use Rattle.lezgauri_c.specs.declared.kept_types.KeptTypes.{KeptTypes}
-use Rattle.lezgauri_c.specs.Places.{code_status, TellsPlace}
-use Rattle.lezgauri_c.specs.Values.{table_in, at_in, stored_in, allocator_in, Tells, TellsOption, OnSound}
+use Rattle.lezgauri_c.specs.Places.{code_status, TellsPlace, TellsEntry}
+use Rattle.lezgauri_c.specs.Values.{table_in, at_in, entry_in, stored_in, allocator_in, Tells, TellsOption, OnSound}
 
 -- ---- the image and the types that are read
 
@@ -57,6 +58,12 @@ pub tells_place : (code : Code) (status : ℕ) (old place : told.Place) (returne
     → P (result_ok (found_position returned)) → TellsOption status (code_status code) place (λ found. P (at_in found))
 tells_place code status old place (Ok found) P tells only is = inl (tells.0, subst (λ (p : told.Place). P (Some p.at)) (sym tells.1) is)
 tells_place code status old place (Err error) P tells only is = inr (tells.0 ∙ ap code_status only, is)
+
+-- the same for a key and the place of its value
+pub tells_entry : (code : Code) (status : ℕ) (key : ℤ) (place : told.Place) (returned : Result (ℤ × Place) Code) (P : Option KeyValue → Type 0) → TellsEntry status key place returned → IsOkUnless (found_entry returned) code
+    → P (result_ok (found_entry returned)) → TellsOption status (code_status code) (entry_in key place) P
+tells_entry code status key place (Ok found) P tells only is = inl (tells.0, rw (tells.1, tells.2) is)
+tells_entry code status key place (Err error) P tells only is = inr (tells ∙ ap code_status only, is)
 
 pub tells_at : (code : Code) (status : ℕ) (old place : told.Place) (returned : Result Place Code) (at : Option ℕ) → TellsPlace status old place returned
     → MatchResult (found_position returned) (λ p. at ≡ Some p) (λ error. (error ≡ code) × (at ≡ None)) → TellsOption status (code_status code) place (λ found. at_in found ≡ at)

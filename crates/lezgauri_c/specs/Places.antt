@@ -5,7 +5,9 @@
 --     code_status code        the status that reports a code
 --     TellsPlace status old new returned
 --                             the status and the caller's place report the result of a call
-use Rattle.std.specs.Prelude.{◌≡◌, ◌+◌, ℕ, Result, Ok, Err, nat_lt, if◌then◌else◌}
+--     TellsEntry status key place returned
+--                             the status, and the caller's key and place, report the result of a call
+use Rattle.std.specs.Prelude.{◌≡◌, ◌+◌, ℕ, ℤ, Result, Ok, Err, nat_lt, if◌then◌else◌}
 use Rattle.seg_raw.specs.declared.code.Code.{Code}
 use Rattle.seg_raw.specs.Refusals.{code_number}
 use Rattle.lezgauri.specs.Place.{Place}
@@ -26,3 +28,8 @@ code_status code = 110 + code_number code
 abbrev pub TellsPlace : ℕ → told.Place → told.Place → Result Place Code → Type 0
 TellsPlace status old new (Ok place) = (status ≡ 0) × (new ≡ told_place place)
 TellsPlace status old new (Err code) = (status ≡ code_status code) × (new ≡ old)
+
+abbrev pub TellsEntry : ℕ → ℤ → told.Place → Result (ℤ × Place) Code → Type 0
+TellsEntry status key place (Ok entry) =
+    (status ≡ 0) × (key ≡ entry.0) × (place ≡ told_place entry.1)
+TellsEntry status key place (Err code) = status ≡ code_status code

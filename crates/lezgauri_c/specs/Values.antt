@@ -1,6 +1,7 @@
 -- Calls from C on the values of an image, with the types that C keeps.
 --     table_in types            the types that C keeps, if there are any
 --     at_in place               the position of a place that was found, if any
+--     entry_in key place        a key that was found, with the position of its value's place
 --     Tells status value returned     the status and the caller's value report the result of a call
 --     ReturnsPlace status old new P   the call returned a place or a code, and P is true of that result
 --     TellsOption status none value P
@@ -31,6 +32,7 @@ use Rattle.seg_value.specs.Stored.{Stored, whole_of}
 use Rattle.seg_seq.specs.Sequences.{HasText, HasItems, ShowsItem}
 use Rattle.seg_seq.specs.Lists.{HasList}
 use Rattle.lezgauri.specs.EitherMap.{WhereMaps}
+use Rattle.lezgauri.specs.KeyValue.{KeyValue}
 use Rattle.lezgauri_c.specs.declared.place.Place as told
 use Rattle.lezgauri_c.specs.declared.kept_types.KeptTypes.{KeptTypes}
 use Rattle.lezgauri_c.specs.KeptImages.{table_of}
@@ -43,6 +45,9 @@ table_in types = table_of types.kept.image
 
 abbrev pub at_in : Option told.Place → Option ℕ
 at_in place = option_map (λ p. p.at) place
+
+abbrev pub entry_in : ℤ → told.Place → KeyValue
+entry_in key place = record { key = key; value = place.at }
 
 -- ---- results
 

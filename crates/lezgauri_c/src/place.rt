@@ -1,6 +1,6 @@
 ghost use Rattle.std.specs.Prelude.{◌≡◌, ◌⊎◌, ◌<◌, ◌≤◌};
 ghost use Rattle.lezgauri_c.specs.Places as places;
-ghost use Rattle.lezgauri_c.specs.Places.{TellsPlace};
+ghost use Rattle.lezgauri_c.specs.Places.{TellsPlace, TellsEntry};
 
 use crate::status::{OK, code_status};
 use seg_raw::Code;
@@ -45,6 +45,30 @@ pub(crate) fn give(returned: Result<ValuePlace, Code>, place: &mut Place) -> u32
 {
     match returned {
         Ok(ValuePlace { at, type_id }) => {
+            *place = Place {
+                at,
+                type_id: u32::from(type_id),
+            };
+            OK
+        }
+        Err(code) => code_status(code),
+    }
+}
+
+/// Gives the caller the key and the place that a call returned, and returns `OK`, or returns the status for a code.
+pub(crate) fn give_entry(
+    returned: Result<(i64, ValuePlace), Code>,
+    key: &mut i64,
+    place: &mut Place,
+) -> u32
+    ensures told { TellsEntry result key.new place.new returned }
+    ensures number { 0 < result → 110 < result }
+    ensures unwritten { 0 < result → (key.new ≡ key.old) × (place.new ≡ place.old) }
+    ensures status { (result ≡ 0) ⊎ ((111 ≤ result) × (result ≤ 117)) }
+{
+    match returned {
+        Ok((found, ValuePlace { at, type_id })) => {
+            *key = found;
             *place = Place {
                 at,
                 type_id: u32::from(type_id),
