@@ -66,6 +66,7 @@ _STEP = (c_uint32, (*_AT, CPlace, POINTER(CPlace)))
 _INDEXED = (c_uint32, (*_AT, c_uint32, POINTER(CPlace)))
 _KEYED = (c_uint32, (*_AT, c_int64, POINTER(CPlace)))
 _NEXT_KEY = (c_uint32, (*_AT, POINTER(c_int64), POINTER(c_int64)))
+_NEXT_ENTRY = (c_uint32, (*_AT, POINTER(c_int64), POINTER(c_int64), POINTER(CPlace)))
 
 # The result and the arguments of each call of lezgauri.h.
 CALLS = {
@@ -112,6 +113,8 @@ CALLS = {
     "lezgauri_get": _KEYED,
     "lezgauri_next_key": _NEXT_KEY,
     "lezgauri_previous_key": _NEXT_KEY,
+    "lezgauri_next_entry": _NEXT_ENTRY,
+    "lezgauri_previous_entry": _NEXT_ENTRY,
     "lezgauri_content": _TO_PLACE,
     "lezgauri_construct": (c_uint32, (*_NAME, c_uint32, c_uint32, POINTER(CPlace))),
     "lezgauri_find_or_construct": (c_uint32, (*_NAME, c_uint32, POINTER(CPlace))),

@@ -3,7 +3,7 @@ import array
 import contextlib
 import ctypes
 import operator
-from collections.abc import KeysView, MutableMapping, Sequence
+from collections.abc import ItemsView, KeysView, MutableMapping, Sequence
 from ctypes import byref, c_int64, c_uint32
 from typing import TYPE_CHECKING, Any, Callable, Dict, Iterable, Iterator, List as ListOf, Optional, Tuple, Type as TypeOf, Union
 
@@ -446,6 +446,20 @@ class Keys(KeysView):  # type: ignore[type-arg]
         return len(self._map) if self._after is None and self._before is None else sum(1 for _ in self)
 
 
+class Entries(ItemsView):  # type: ignore[type-arg]
+    """The keys of a map in ascending order with their values. A loop may change the map: it continues with the next key."""
+
+    def __init__(self, map: "Map") -> None:
+        super().__init__(map)
+        self._map = map
+
+    def __iter__(self) -> Iterator[Tuple[int, Item]]:
+        return ((key, view.value) for key, view in self._map._views(library().lezgauri_next_entry))
+
+    def __reversed__(self) -> Iterator[Tuple[int, Item]]:
+        return ((key, view.value) for key, view in self._map._views(library().lezgauri_previous_entry))
+
+
 class Map(_Sized, MutableMapping):  # type: ignore[type-arg]
     """A map from numbers, `map` or `flat_map`: a mapping with its keys in ascending order."""
 
@@ -496,6 +510,10 @@ class Map(_Sized, MutableMapping):  # type: ignore[type-arg]
         """The keys in ascending order, and with `reversed` in descending order: all, or those above `after` and below `before`."""
         return Keys(self, after, before)
 
+    def items(self) -> Entries:
+        """The keys in ascending order with their values, and with `reversed` in descending order."""
+        return Entries(self)
+
     def __iter__(self) -> Iterator[int]:
         return iter(self.keys())
 
@@ -521,6 +539,19 @@ class Map(_Sized, MutableMapping):  # type: ignore[type-arg]
         except NoValue:
             return None
         return key.value
+
+    def _views(self, call: Callable[..., int]) -> Iterator[Tuple[int, AnyView]]:
+        """The keys with the views of their values, each from a call that returns the next entry."""
+        key = c_int64()
+        start = None
+        while True:
+            place = CPlace()
+            try:
+                self._read(call, start, byref(key), byref(place))
+            except NoValue:
+                return
+            start = byref(key)
+            yield key.value, self.segment._view(place, self._frozen)
 
     _NONE = object()
 
@@ -562,7 +593,7 @@ class Map(_Sized, MutableMapping):  # type: ignore[type-arg]
             self.update(items)
 
     def _plain(self, kept: Optional[Kept]) -> Dict[int, Any]:
-        return {key: self.at(key)._plain(kept) for key in self}
+        return {key: view._plain(kept) for key, view in self._views(library().lezgauri_next_entry)}
 
 
 class Own(Value):

@@ -682,6 +682,10 @@ class MapTest(ValueCase):
             self.assertEqual((len(numbers), list(numbers), list(numbers.keys())), (6, ordered, ordered))
             self.assertEqual((list(reversed(numbers)), numbers.first(), numbers.last()), (ordered[::-1], LEAST, MOST))
             self.assertEqual((numbers, dict(numbers.items())), ({key: key // 2 for key in keys}, {key: key // 2 for key in keys}))
+            self.assertEqual(list(numbers.items()), [(key, key // 2) for key in ordered])
+            self.assertEqual(list(reversed(numbers.items())), [(key, key // 2) for key in ordered[::-1]])
+            items = numbers.items()
+            self.assertEqual((len(items), (LEAST, LEAST // 2) in items, (LEAST, 0) in items), (len(keys), True, False))
             self.assertEqual(sum(numbers.values()), sum(key // 2 for key in keys))
             self.assertEqual((numbers[5], numbers.get(5), numbers.get(6), numbers.get(6, 7), numbers.at(5)), (2, 2, None, 7, 2))
             numbers[5] += 10
