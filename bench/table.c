@@ -94,8 +94,7 @@ static int64_t sum_values(long count)
     for (long i = 0; i < count; i++) {
         lezgauri_place value;
         int64_t key, number;
-        succeed(lezgauri_next_key(segment, map, i == 0 ? NULL : &before, &key));
-        succeed(lezgauri_get(segment, map, key, &value));
+        succeed(lezgauri_next_entry(segment, map, i == 0 ? NULL : &before, &key, &value));
         succeed(lezgauri_load(segment, value, &number));
         sum += number;
         before = key;

@@ -233,6 +233,8 @@ static uint64_t read_all(const lezgauri_handle *segment, const call *it, lezgaur
         lezgauri_get(segment, place, it->key, &found),
         lezgauri_next_key(segment, place, &it->key, &number),
         lezgauri_previous_key(segment, place, &it->key, &number),
+        lezgauri_next_entry(segment, place, &it->key, &number, &found),
+        lezgauri_previous_entry(segment, place, &it->key, &number, &found),
         lezgauri_content(segment, place, &found),
         lezgauri_item(segment, place, UINT32_MAX, &found),
     };

@@ -65,8 +65,8 @@ static void walk_keys(walk *of, lezgauri_place place, uint32_t len, uint32_t dep
 {
     int64_t key = 0, before;
     for (uint32_t i = 0; i < len && of->values < MOST_VALUES; i++) {
-        lezgauri_place value;
-        int64_t last = key;
+        lezgauri_place value, found;
+        int64_t last = key, same;
         need_ok("next_key", lezgauri_next_key(of->segment, place, i == 0 ? NULL : &last, &key));
         if (i > 0) {
             need_ok("previous_key", lezgauri_previous_key(of->segment, place, &key, &before));
@@ -74,6 +74,8 @@ static void walk_keys(walk *of, lezgauri_place place, uint32_t len, uint32_t dep
         }
         add(of, &key, sizeof key);
         need_ok("get", lezgauri_get(of->segment, place, key, &value));
+        need_ok("next_entry", lezgauri_next_entry(of->segment, place, i == 0 ? NULL : &last, &same, &found));
+        NEED(same == key && found.at == value.at && found.type == value.type, "an entry isn't a key and its value");
         walk_value(of, value, depth + 1);
         if (i == len - 1) {
             NEED(lezgauri_next_key(of->segment, place, &key, &last) == LEZGAURI_NO_VALUE,
