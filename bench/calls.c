@@ -208,6 +208,12 @@ static void next_key(void)
     succeed(lezgauri_next_key(values, map, &after, &loaded));
 }
 
+static void next_entry(void)
+{
+    static const int64_t after = KEY;
+    succeed(lezgauri_next_entry(values, map, &after, &loaded, &place));
+}
+
 static void put_remove(void)
 {
     succeed(lezgauri_put(values, map, NEW_KEY, &place));
@@ -261,6 +267,7 @@ static const work WORKS[] = {
     {"store", store},
     {"get", get},
     {"next_key", next_key},
+    {"next_entry", next_entry},
     {"put, remove", put_remove},
     {"push_back, pop_back", push_pop},
     {"assign", assign},

@@ -49,6 +49,7 @@ VALUE_WORKS = [
     ("store", None, ()),
     ("get", None, ("boost-get", "lmdb-get", "sqlite-get")),
     ("next_key", None, ("boost-next", "lmdb-next")),
+    ("next_entry", None, ("boost-next", "lmdb-next")),
     ("put, remove", None, ("boost-put, erase", "lmdb-put, del", "sqlite-insert, delete")),
     ("push_back, pop_back", None, ("boost-push, pop",)),
     ("assign", None, ("boost-assign",)),
