@@ -51,6 +51,6 @@ done
 cd "$copy/main"
 # not every release of rt takes the names of crates here
 case "$(rt help 2>&1)" in
-  *"rt ci [NAME"*) rt ci "${crates[@]}" ;;
+  *"rt ci NAME"* | *"rt ci [NAME"*) rt ci "${crates[@]}" ;;
   *) rt must-fail "${crates[@]}" ;;
 esac
