@@ -53,19 +53,19 @@ print n
 
 # They make a map with many keys, and many objects.
 KEYS = """object all: map<int>
-for i in 0..3000000 { all[i] = i }
+for i in 0..8000000 { all[i] = i }
 print "made"
 fail { print "no room"; stop }
 """
 
 NAMES = """family name: int
-for i in 0..1500000 { name[i] = i }
+for i in 0..3000000 { name[i] = i }
 print "made"
 fail { print "no room"; stop }
 """
 
 # The sizes of images: for the keys and the names, and one whose check alone is expected to take more than a second.
-FILLED = 256 << 20
+FILLED = 512 << 20
 LARGE = 640 << 20
 
 # Each long command, with the words of its bars, in order. Nothing but the check takes long on the large image, which is
