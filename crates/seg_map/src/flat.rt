@@ -142,7 +142,7 @@ fn entry_at<S: SegmentRead>(source: &S, entry: Entry, cell: CellAt, index: u32) 
     }
 }
 
-/// The least key.
+/// The least key, with the position of its value.
 pub(crate) fn first_entry<S: SegmentRead>(
     source: &S,
     entry: Entry,
@@ -157,7 +157,7 @@ pub(crate) fn first_entry<S: SegmentRead>(
     entry_at(source, entry, cell, 0)
 }
 
-/// The least key above another.
+/// The least key above another, with the position of its value.
 #[inline(never)]
 pub(crate) fn next_entry<S: SegmentRead>(
     source: &S,
@@ -195,7 +195,7 @@ fn entry_before<S: SegmentRead>(
     entry_at(source, entry, cell, index.checked_sub(1)?)
 }
 
-/// The greatest key.
+/// The greatest key, with the position of its value.
 pub(crate) fn last_entry<S: SegmentRead>(source: &S, entry: Entry, cell: CellAt) -> Option<KeyValue>
     ensures { WhereMap Form.flat_map (S.allocator source.now) (S.stored source.now).window.bytes
         (S.stored source.now).types cell
@@ -206,7 +206,7 @@ pub(crate) fn last_entry<S: SegmentRead>(source: &S, entry: Entry, cell: CellAt)
     entry_before(source, entry, cell, source.count(cell))
 }
 
-/// The greatest key below another.
+/// The greatest key below another, with the position of its value.
 pub(crate) fn previous_entry<S: SegmentRead>(
     source: &S,
     entry: Entry,

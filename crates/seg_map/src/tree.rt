@@ -184,7 +184,7 @@ fn entry_at(view: View, entry: Entry, node: NodeAt) -> KeyValue
     }
 }
 
-/// The least key. The cursor is left at it.
+/// The least key, with the position of its value. The cursor is left at it.
 pub(crate) fn first_entry<S: SegmentRead>(
     source: &S,
     entry: Entry,
@@ -203,7 +203,8 @@ pub(crate) fn first_entry<S: SegmentRead>(
     Some(entry_at(view, entry, node))
 }
 
-/// The least key above another. The cursor is left at it. It takes one step if the cursor was at the other key.
+/// The least key above another, with the position of its value. The cursor is left at it. It takes one step if the cursor
+/// was at the other key.
 pub(crate) fn next_entry<S: SegmentRead>(
     source: &S,
     entry: Entry,
@@ -225,7 +226,7 @@ pub(crate) fn next_entry<S: SegmentRead>(
     Some(entry_at(view, entry, node))
 }
 
-/// The greatest key.
+/// The greatest key, with the position of its value.
 pub(crate) fn last_entry<S: SegmentRead>(source: &S, entry: Entry, cell: CellAt) -> Option<KeyValue>
     ensures { WhereMap Form.map (S.allocator source.now) (S.stored source.now).window.bytes
         (S.stored source.now).types cell
@@ -238,7 +239,7 @@ pub(crate) fn last_entry<S: SegmentRead>(source: &S, entry: Entry, cell: CellAt)
     Some(entry_at(view, entry, node))
 }
 
-/// The greatest key below another.
+/// The greatest key below another, with the position of its value.
 pub(crate) fn previous_entry<S: SegmentRead>(
     source: &S,
     entry: Entry,
