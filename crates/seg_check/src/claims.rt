@@ -18,6 +18,9 @@ use seg_ptr::View;
 use std::alloc::{AllocError, Allocator};
 use std::marker::Model;
 
+/// The offset of the pointer to a node's right child.
+const RIGHT: u32 = 4;
+
 /// The blocks of a heap: which of them have an owner, and which have values that are still to be checked.
 #[derive(Drop)]
 pub(crate) struct Claims<A: Allocator> {
@@ -193,13 +196,13 @@ impl<A: Allocator> Claims<A> {
         }
     }
 
-    /// Reads the tags of the nodes two links below a node. The processor fetches them from memory together, and they are in its
-    /// cache when the walk reaches them. Without these reads, the walk would wait for one node after the other.
+    /// Reads the nodes three links below a node. The processor fetches them from memory together, and they are in its cache
+    /// when the walk reaches them. Without these reads, the walk would wait for one node after the other.
     #[inline(always)]
     pub(crate) fn look_ahead(&mut self, bytes: View, node: PayloadAt)
         ensures { self.new ≡ self.old }
     {
-        self.ahead = tags_below(bytes, node) ^ tags_below(bytes, node.wrapping_add(4));
+        self.ahead = far_below(bytes, node) ^ far_below(bytes, node.wrapping_add(RIGHT));
     }
 
     /// Puts a claimed block in the queue. What owns it now owns its values.
@@ -391,18 +394,29 @@ fn one_less(left: Option<u32>) -> Option<u32>
     }
 }
 
-/// The tags of the two children of the node that a pointer points to.
+/// Words of the grandchildren of the node that a pointer points to.
 #[inline(always)]
-fn tags_below(bytes: View, pointer: u32) -> u32 {
+fn far_below(bytes: View, pointer: u32) -> u32 {
     match bytes.target(pointer as usize) {
-        Some(node) => tag_of(bytes, node) ^ tag_of(bytes, node.wrapping_add(4)),
+        Some(node) => below(bytes, node) ^ below(bytes, node.wrapping_add(RIGHT)),
         None => 0,
     }
 }
 
-/// The tag of the node that a pointer points to.
+/// Words of the children of the node that a pointer points to.
 #[inline(always)]
-fn tag_of(bytes: View, pointer: u32) -> u32 {
+fn below(bytes: View, pointer: u32) -> u32 {
+    match bytes.target(pointer as usize) {
+        Some(node) => ends_of(bytes, node) ^ ends_of(bytes, node.wrapping_add(RIGHT)),
+        None => 0,
+    }
+}
+
+/// Words of the block's header and of the key of the node that a pointer points to, which may lie in two lines of the
+/// processor's cache.
+#[inline(always)]
+fn ends_of(bytes: View, pointer: u32) -> u32 {
     let node = bytes.get32(pointer as usize).wrapping_add(pointer);
-    bytes.get32(node.wrapping_sub(8) as usize)
+    let (header, key) = (node.wrapping_sub(UNIT / 2), node.wrapping_add(UNIT));
+    bytes.get32(header as usize) ^ bytes.get32(key as usize)
 }

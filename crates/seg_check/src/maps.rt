@@ -38,9 +38,8 @@ impl TypedImage<'_> {
         let mut keys = Keys::new();
         for index in 0..count {
             keys.add(key(bytes, entry.value_at(start, index)));
-            keys.check(cell)?;
         }
-        Ok(())
+        keys.check(cell)
     }
 
     /// Checks a map: claims its nodes, and then checks the tree and the order of its keys.

@@ -13,7 +13,7 @@ use Rattle.seg_check.proofs.Queue.QueueStepLaws.{steps_refused}
 use Rattle.seg_check.proofs.Blocks.CellClaimLaws.{ready_live}
 use Rattle.seg_check.proofs.Blocks.LackingBlockLaws.{ready_allocated}
 use Rattle.seg_check.proofs.Contents.BufferLaws.{counted_none, counted_some, counted_names}
-use Rattle.seg_check.proofs.Contents.AscendingKeyLaws.{keys_more, fewer_ascend}
+use Rattle.seg_check.proofs.Contents.AscendingKeyLaws.{keys_more}
 use Rattle.seg_check.proofs.Contents.FlatMapLaws.{flat_nothing, flat_counted, flat_can, flat_steps, flat_key, flat_counted_lack, flat_lacks}
 use Rattle.seg_check.proofs.image.TypedImage.check_flat_map.Goals as goal
 
@@ -65,35 +65,8 @@ loop-index-preserved g c = λ T U by ready.
     (ready_live bytes table old ready)) c.loop-index-test.true c.value_at.ensures in
     let same = to_z-of_z w64 c.key.result (record { sfits = c.key.type_inv }) in
     let key = same ∙ c.key.ensures at.0 ∙ ap (signed_long bytes) at.1 in
-    let more = c.add.ensures (keys_at bytes (spaced p step i)) (c.loop-index.invariant T U by ready).0 in
-    let has = subst (λ ks. HasKeys c.add.new.self ks) (sym (keys_more bytes p step i)) (subst (λ (k : ℤ). HasKeys c.add.new.self (keys_at bytes (spaced p step i) ++ k ∷ [])) key more) in
-    (has, c.in_ok-check.ensures (keys_at bytes (spaced p step (i + 1))) has)
-
-pub returns-in_err-check-clause-steps : goal.returns-in_err-check-clause-steps
-returns-in_err-check-clause-steps g c = λ T U by ready lies.
-    let bytes = c.args.self.now.bytes.bytes.now in
-    let table = c.args.self.now.types.now in
-    let old = c.args.claims.now in
-    let cell = c.args.cell in
-    let n = c.in-Some.count in
-    let i = c.loop-index.index in
-    let p = c.in_ok-start.start in
-    let step = 8 + size table U in
-    let at = flat_key bytes table c.args.cell T U c.args.content.now by old c.claim_entries.new.claims c.in-Some.count p i c.value_at.result ready (c.in_ok-start.ensures.claimed
-    (ready_live bytes table old ready)) c.loop-index-test.true c.value_at.ensures in
-    let same = to_z-of_z w64 c.key.result (record { sfits = c.key.type_inv }) in
-    let key = same ∙ c.key.ensures at.0 ∙ ap (signed_long bytes) at.1 in
-    let more = c.add.ensures (keys_at bytes (spaced p step i)) (c.loop-index.invariant T U by ready).0 in
-    let has = subst (λ ks. HasKeys c.add.new.self ks) (sym (keys_more bytes p step i)) (subst (λ (k : ℤ). HasKeys c.add.new.self (keys_at bytes (spaced p step i) ++ k ∷ [])) key more) in
-    let e = c.in_err-check.field-0.0 in
-    let failed = err_from_is_err_and c.from_residual-in_err-check.result c.from_residual-in_err-check.ensures.1 in
-    let same : failed.0 ≡ e = failed.2 in
-    let falls = c.in_err-check.ensures (keys_at bytes (spaced p step (i + 1))) has in
-    let counts = sym c.counted.ensures ∙ c.in_ok-count.was ∙ ap Ok c.in-Some.is in
-    let n_is = counted_some cell (count_at bytes cell) n (target bytes cell) counts in
-    subst (λ r. Steps bytes table old c.claim_entries.new.claims (object_at cell T ∷ []) r) (sym (failed.1 ∙ ap Err same))
-    (flat_steps bytes table cell T U c.args.content.now by {A = Unit {0}} old c.claim_entries.new.claims n p (Err e) ready lies n_is (c.in_ok-start.ensures.claimed (ready_live bytes table old ready))
-    (falls.0, (λ a. falls.1 (fewer_ascend bytes p step (i + 1) n (omega (arith, c.loop-index-test.true)) a))))
+    let more = c.add.ensures (keys_at bytes (spaced p step i)) (c.loop-index.invariant T U by ready) in
+    subst (λ ks. HasKeys c.add.new.self ks) (sym (keys_more bytes p step i)) (subst (λ (k : ℤ). HasKeys c.add.new.self (keys_at bytes (spaced p step i) ++ k ∷ [])) key more)
 
 pub returns-clause-steps : goal.returns-clause-steps
 returns-clause-steps g c = λ T U by ready lies.
@@ -105,5 +78,7 @@ returns-clause-steps g c = λ T U by ready lies.
     let counts = sym c.counted.ensures ∙ c.in_ok-count.was ∙ ap Ok c.in-Some.is in
     let n_is = counted_some at (count_at bytes at) c.in-Some.count (target bytes at) counts in
     let all : c.loop-index.index ≡ c.in-Some.count = omega (arith, c.loop-index-test.false, c.loop-index.auto.index-end) in
-    let ascend = subst (λ n. IsAscending (keys_at bytes (spaced p (8 + size table U) n))) all (c.loop-index.invariant T U by ready).1 in
-    flat_steps bytes table at T U c.args.content.now by {A = Unit {0}} old c.claim_entries.new.claims c.in-Some.count p (Ok tt) ready lies n_is (c.in_ok-start.ensures.claimed (ready_live bytes table old ready)) ascend
+    let step = 8 + size table U in
+    let has = subst (λ n. HasKeys c.loop-index.keys (keys_at bytes (spaced p step n))) all (c.loop-index.invariant T U by ready) in
+    flat_steps bytes table at T U c.args.content.now by {A = Unit {0}} old c.claim_entries.new.claims c.in-Some.count p c.check.result ready lies n_is (c.in_ok-start.ensures.claimed (ready_live bytes table old ready))
+    (c.check.ensures (keys_at bytes (spaced p step c.in-Some.count)) has)
