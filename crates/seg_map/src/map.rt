@@ -141,8 +141,11 @@ pub fn first_entry<S: SegmentRead>(source: &S, map: Place) -> Result<KeyValue, C
         (λ U keys vs blocks. FindsEntry (S.stored source.now).window.bytes
         (S.stored source.now).types (place_of map) U (first_of keys) (result_ok result)) }
 {
-    let mut cursor = Path::new(map.at as usize);
-    first_entry_by(source, &mut cursor, map)
+    match MapKind::of(source, map)? {
+        MapKind::Flat(content) => flat::first_entry(source, content.entry, map.at),
+        MapKind::Tree(content) => tree::first_entry(source, content.entry, map.at),
+    }
+    .ok_or(Code::Null)
 }
 
 /// Like [`first_entry`]. In a tree map the cursor is left at the key.
@@ -164,7 +167,7 @@ pub fn first_entry_by<S: SegmentRead>(
 {
     match MapKind::of(source, map)? {
         MapKind::Flat(content) => flat::first_entry(source, content.entry, map.at),
-        MapKind::Tree(content) => tree::first_entry(source, content.entry, cursor, map.at),
+        MapKind::Tree(content) => tree::first_entry_by(source, content.entry, cursor, map.at),
     }
     .ok_or(Code::Null)
 }
@@ -212,8 +215,11 @@ pub fn next_entry<S: SegmentRead>(source: &S, map: Place, after: i64) -> Result<
         (S.stored source.now).types (place_of map) U (first_of (keys_above keys after))
         (result_ok result)) }
 {
-    let mut cursor = Path::new(map.at as usize);
-    next_entry_by(source, &mut cursor, map, after)
+    match MapKind::of(source, map)? {
+        MapKind::Flat(content) => flat::next_entry(source, content.entry, map.at, after),
+        MapKind::Tree(content) => tree::next_entry(source, content.entry, map.at, after),
+    }
+    .ok_or(Code::Null)
 }
 
 /// Like [`next_entry`]. In a tree map the cursor is left at the key, so the following call is one step.
@@ -238,7 +244,7 @@ pub fn next_entry_by<S: SegmentRead>(
 {
     match MapKind::of(source, map)? {
         MapKind::Flat(content) => flat::next_entry(source, content.entry, map.at, after),
-        MapKind::Tree(content) => tree::next_entry(source, content.entry, cursor, map.at, after),
+        MapKind::Tree(content) => tree::next_entry_by(source, content.entry, cursor, map.at, after),
     }
     .ok_or(Code::Null)
 }

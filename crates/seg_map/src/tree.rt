@@ -184,8 +184,25 @@ fn entry_at(view: View, entry: Entry, node: NodeAt) -> KeyValue
     }
 }
 
-/// The least key, with the position of its value. The cursor is left at it.
+/// The least key, with the position of its value.
 pub(crate) fn first_entry<S: SegmentRead>(
+    source: &S,
+    entry: Entry,
+    cell: CellAt,
+) -> Option<KeyValue>
+    ensures { WhereMap Form.map (S.allocator source.now) (S.stored source.now).window.bytes
+        (S.stored source.now).types cell
+        (λ T U keys vs blocks. IsEntryOf (S.stored source.now).types VALUE U entry
+        → FindsEntry (S.stored source.now).window.bytes (S.stored source.now).types
+        (object_at cell T) U (first_of keys) result) }
+{
+    let view = source.view();
+    let node = tree_of(cell).first(view)?;
+    Some(entry_at(view, entry, node))
+}
+
+/// Like [`first_entry`]. The cursor is left at the key.
+pub(crate) fn first_entry_by<S: SegmentRead>(
     source: &S,
     entry: Entry,
     cursor: &mut Path,
@@ -203,9 +220,26 @@ pub(crate) fn first_entry<S: SegmentRead>(
     Some(entry_at(view, entry, node))
 }
 
-/// The least key above another, with the position of its value. The cursor is left at it. It takes one step if the cursor
-/// was at the other key.
+/// The least key above another, with the position of its value.
 pub(crate) fn next_entry<S: SegmentRead>(
+    source: &S,
+    entry: Entry,
+    cell: CellAt,
+    after: i64,
+) -> Option<KeyValue>
+    ensures { WhereMap Form.map (S.allocator source.now) (S.stored source.now).window.bytes
+        (S.stored source.now).types cell
+        (λ T U keys vs blocks. IsEntryOf (S.stored source.now).types VALUE U entry
+        → FindsEntry (S.stored source.now).window.bytes (S.stored source.now).types
+        (object_at cell T) U (first_of (keys_above keys after)) result) }
+{
+    let view = source.view();
+    let node = tree_of(cell).next_after(view, &ByKey, after)?;
+    Some(entry_at(view, entry, node))
+}
+
+/// Like [`next_entry`]. The cursor is left at the key. It takes one step if the cursor was at the other key.
+pub(crate) fn next_entry_by<S: SegmentRead>(
     source: &S,
     entry: Entry,
     cursor: &mut Path,

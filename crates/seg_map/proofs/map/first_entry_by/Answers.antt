@@ -31,8 +31,8 @@ returns-clause-first g c =
           c.ok_or.ensures.value (w.first_entry.ensures T U keys vs blocks a.0 s a.1.entry_is)
       | in-Tree w ↦
           let a = as_tree table T (form_at table T) w.in-Tree.content U (subst (λ k. MapKindOf table T (form_at table T) (Ok k)) w.in-Tree.is c.in_ok-content.ensures) m in
-          entry_by stored.window.bytes table (place_of c.args.map) U _ _ refl c.match-branch-2.ok_or w.first_entry-in-Tree.result w.ok_or-is c.ok_or.result code.Null
-          c.ok_or.ensures.value (w.first_entry-in-Tree.ensures.first T U keys vs blocks a.0 s a.1.entry_is)
+          entry_by stored.window.bytes table (place_of c.args.map) U _ _ refl c.match-branch-2.ok_or w.first_entry_by.result w.ok_or-is c.ok_or.result code.Null
+          c.ok_or.ensures.value (w.first_entry_by.ensures.first T U keys vs blocks a.0 s a.1.entry_is)
     ]
 
 pub returns-in_err-content-clause-other : goal.returns-in_err-content-clause-other
