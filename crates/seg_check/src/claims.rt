@@ -196,13 +196,17 @@ impl<A: Allocator> Claims<A> {
         }
     }
 
-    /// Reads the nodes three links below a node. The processor fetches them from memory together, and they are in its cache
-    /// when the walk reaches them. Without these reads, the walk would wait for one node after the other.
+    /// Reads the nodes three links below the one that a pointer points to. The processor fetches them from memory together,
+    /// and they are in its cache when the walk reaches them. Without these reads, the walk would wait for one node after the
+    /// other.
     #[inline(always)]
-    pub(crate) fn look_ahead(&mut self, bytes: View, node: PayloadAt)
+    pub(crate) fn look_ahead(&mut self, bytes: View, pointer: u32)
         ensures { self.new ≡ self.old }
     {
-        self.ahead = far_below(bytes, node) ^ far_below(bytes, node.wrapping_add(RIGHT));
+        if let Some(node) = bytes.target(pointer as usize) {
+            let right = node.wrapping_add(RIGHT);
+            self.ahead = far_below(bytes, node) ^ far_below(bytes, right);
+        }
     }
 
     /// Puts a claimed block in the queue. What owns it now owns its values.

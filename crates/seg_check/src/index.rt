@@ -89,8 +89,9 @@ impl<'a> TypedImage<'a> {
         let mut walk = tree.walk(self.bytes);
         let mut before: &[u8] = &[];
         while let Some(visit) = walk.next().map_err(ContentFault::BadIndex)? {
-            if let Visit::Pass(node) = visit {
-                before = self.check_entry(claims, entry_in(node), before)?;
+            match visit {
+                Visit::Enter(pointer) => claims.look_ahead(self.bytes, pointer),
+                Visit::Pass(node) => before = self.check_entry(claims, entry_in(node), before)?,
             }
         }
         Ok(())
@@ -122,6 +123,7 @@ impl<'a> TypedImage<'a> {
         while let Some(visit) = walk.next().map_err(ContentFault::BadIndex)? {
             if let Visit::Enter(pointer) = visit {
                 self.claim_entries(claims, pointer, &content, 1)?;
+                claims.look_ahead(self.bytes, pointer);
             }
         }
         Ok(())

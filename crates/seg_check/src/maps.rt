@@ -69,8 +69,8 @@ impl TypedImage<'_> {
         while let Some(visit) = walk.next().map_err(ContentFault::BadValue)? {
             match visit {
                 Visit::Enter(pointer) => {
-                    let node = owner.claim(claims, pointer, 1)?;
-                    claims.look_ahead(bytes, node);
+                    owner.claim(claims, pointer, 1)?;
+                    claims.look_ahead(bytes, pointer);
                 }
                 Visit::Pass(node) => keys.add(key(bytes, content.entry.value_at(node, 0))),
             }

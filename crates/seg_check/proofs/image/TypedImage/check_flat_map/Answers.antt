@@ -4,7 +4,6 @@ use Rattle.std.proofs.lemmas.Result.{err_from_is_err_and}
 use Rattle.seg_spec.specs.Bytes.{signed_long}
 use Rattle.seg_spec.specs.Pointer.{target}
 use Rattle.seg_spec.specs.Types.{size}
-use Rattle.seg_spec.specs.Value.{IsAscending}
 use Rattle.seg_spec.specs.Reads.{count_at, keys_at, spaced}
 use Rattle.seg_cells.specs.Places.{object_at}
 use Rattle.seg_check.specs.Keys.{HasKeys}

@@ -88,7 +88,7 @@ returns-in_err-visit-clause-steps g c = λ T U by ready lies.
 
 pub loop-visit-preserved-in-Enter : goal.loop-visit-preserved-in-Enter
 loop-visit-preserved-in-Enter g c = record {
-  taken = ap (λ (k : Known). k.taken) c.look_ahead.ensures ∙ c.in_ok-node-in-Enter.ensures.taken ∙ c.loop-visit.invariant.taken;
+  taken = ap (λ (k : Known). k.taken) c.look_ahead.ensures ∙ c.in_ok-claim-in-Enter.ensures.taken ∙ c.loop-visit.invariant.taken;
   root = c.next.ensures.root ∙ c.loop-visit.invariant.root;
   same = c.next.ensures.bytes ∙ c.loop-visit.invariant.same;
   traced = (λ T U by ready.
@@ -109,16 +109,16 @@ loop-visit-preserved-in-Enter g c = record {
       c.loop-visit.invariant.same t.followed.steady c.next.ensures.fewer c.next.ensures.steady c.next.ensures.goes_on in
       subst (λ (k : Known). Traced bytes table old ready at T U by.form_is k new.stage new.turns c.loop-visit.keys) (sym c.look_ahead.ensures)
       (traced_enter bytes table old ready at T U by.form_is mid walk.stage walk.turns c.loop-visit.keys t new.stage new.turns stepped.0 stepped.1 c.claim.new.claims c.in-Enter.pointer
-      c.in_ok-node-in-Enter.node stepped.2
+      c.in_ok-claim-in-Enter.field-0 stepped.2
       (moves_on bytes walk.bytes.bytes.now walk.stage new.stage c.next.result (Enter c.in-Enter.pointer) (was ∙ ap Ok is) c.loop-visit.invariant.same c.next.ensures.moves)
       (owned_node bytes table T U c.args.content.now by owner.bytes.bytes.now (word_of owner.tag) owner.entry_size owner.has_turns o.bytes (ap word_of o.tag) o.entry_size o.has_turns
-      mid c.claim.new.claims c.in-Enter.pointer c.in_ok-node-in-Enter.node
-      (c.in_ok-node-in-Enter.ensures.claimed (subst (λ bs. HaveLiveHeaders bs mid.unclaimed) (sym o.bytes) (traced_live bytes table old ready at T U by.form_is mid walk.stage walk.turns c.loop-visit.keys t))))));
+      mid c.claim.new.claims c.in-Enter.pointer c.in_ok-claim-in-Enter.field-0
+      (c.in_ok-claim-in-Enter.ensures.claimed (subst (λ bs. HaveLiveHeaders bs mid.unclaimed) (sym o.bytes) (traced_live bytes table old ready at T U by.form_is mid walk.stage walk.turns c.loop-visit.keys t))))));
 }
 
-pub returns-in_err-node-in-Enter-clause-steps :
-    goal.returns-in_err-node-in-Enter-clause-steps
-returns-in_err-node-in-Enter-clause-steps g c = λ T U by ready lies.
+pub returns-in_err-claim-in-Enter-clause-steps :
+    goal.returns-in_err-claim-in-Enter-clause-steps
+returns-in_err-claim-in-Enter-clause-steps g c = λ T U by ready lies.
     let bytes = c.args.self.now.bytes.bytes.now in
     let table = c.args.self.now.types.now in
     let old = c.args.claims.now in
@@ -130,23 +130,23 @@ returns-in_err-node-in-Enter-clause-steps g c = λ T U by ready lies.
     let visit = c.in_ok-visit.field-0 in
     let owner = c.owner-owner.result in
     let o = c.owner-owner.ensures in
-    let e = c.in_err-node-in-Enter.field-0.0 in
-    let failed = err_from_is_err_and c.from_residual-in_err-node-in-Enter.result c.from_residual-in_err-node-in-Enter.ensures.1 in
+    let e = c.in_err-claim-in-Enter.field-0.0 in
+    let failed = err_from_is_err_and c.from_residual-in_err-claim-in-Enter.result c.from_residual-in_err-claim-in-Enter.ensures.1 in
     let same : failed.0 ≡ e = failed.2 in
     let was = ok_was c.next.result c.map_err.result _ visit c.in_ok-visit.was c.map_err.ensures.cases in
     let is : visit ≡ Some (Enter c.in-Enter.pointer) = c.in-Some-2.is ∙ ap Some c.in-Enter.is in
     let stepped = steps_on bytes walk.bytes.bytes.now new.bytes.bytes.now walk.stage new.stage walk.turns new.turns c.next.result (Enter c.in-Enter.pointer) (was ∙ ap Ok is) c.next.ensures.bytes
     c.loop-visit.invariant.same t.followed.steady c.next.ensures.fewer c.next.ensures.steady c.next.ensures.goes_on in
-    steps_refused bytes table old c.claim.new.claims (object_at at T ∷ []) c.from_residual-in_err-node-in-Enter.result e _ (failed.1 ∙ ap Err same)
+    steps_refused bytes table old c.claim.new.claims (object_at at T ∷ []) c.from_residual-in_err-claim-in-Enter.result e _ (failed.1 ∙ ap Err same)
     (λ r. owned_can bytes table T U c.args.content.now by owner.bytes.bytes.now (word_of owner.tag) owner.entry_size o.bytes (ap word_of o.tag) o.entry_size mid c.in-Enter.pointer
     (traced_can bytes table old ready at T U by.form_is mid walk.stage walk.turns c.loop-visit.keys t new.stage c.in-Enter.pointer stepped.2 r))
-    (c.in_err-node-in-Enter.ensures.refused (subst (λ bs. HaveLiveHeaders bs mid.unclaimed) (sym o.bytes) (traced_live bytes table old ready at T U by.form_is mid walk.stage walk.turns c.loop-visit.keys t)))
+    (c.in_err-claim-in-Enter.ensures.refused (subst (λ bs. HaveLiveHeaders bs mid.unclaimed) (sym o.bytes) (traced_live bytes table old ready at T U by.form_is mid walk.stage walk.turns c.loop-visit.keys t)))
     (let now = traced_ready bytes table old ready at T U by.form_is mid walk.stage walk.turns c.loop-visit.keys t in
     node_lacks bytes table old ready at T U by.form_is owner.bytes.bytes.now (word_of owner.tag) owner.entry_size o.bytes (ap word_of o.tag ∙ by.content_of.tag_is) (o.entry_size ∙ by.content_of.entry_is.size_is)
     mid now lies c.in-Enter.pointer
     (placed_link bytes table old ready _ _ at walk.stage new.stage c.in-Enter.pointer t.placed
     (moves_on bytes walk.bytes.bytes.now walk.stage new.stage c.next.result (Enter c.in-Enter.pointer) (was ∙ ap Ok is) c.loop-visit.invariant.same c.next.ensures.moves)) e
-    (c.in_err-node-in-Enter.ensures.lacks (subst (λ bs. HaveLiveHeaders bs mid.allocated) (sym o.bytes) (ready_allocated bytes table mid now))))
+    (c.in_err-claim-in-Enter.ensures.lacks (subst (λ bs. HaveLiveHeaders bs mid.allocated) (sym o.bytes) (ready_allocated bytes table mid now))))
 
 pub loop-visit-preserved : goal.loop-visit-preserved
 loop-visit-preserved g c = record {

@@ -12,7 +12,8 @@ use Rattle.seg_check.proofs.Queue.QueueStepLaws.{refuses_map}
 use Rattle.seg_check.proofs.Objects.RootReadLaws.{can_roots, ready_roots}
 use Rattle.seg_check.proofs.WalkStateLaws.{Followed, follow_start, steps_on}
 use Rattle.seg_check.proofs.Contents.MapLaws.{ok_was, err_was}
-use Rattle.seg_check.proofs.Objects.TreeIndexLaws.{named_start, named_next, named_inside, named_end, named_refused, named_enter, named_pass, tree_names, tree_advance, tree_ready, planted_index}
+use Rattle.seg_check.specs.Marks.{Known}
+use Rattle.seg_check.proofs.Objects.TreeIndexLaws.{Named, named_start, named_next, named_inside, named_end, named_refused, named_enter, named_pass, tree_names, tree_advance, tree_ready, planted_index}
 use Rattle.seg_check.proofs.image.TypedImage.check_tree_index.Goals as goal
 
 pub returns-in_err-claim_index_nodes : goal.returns-in_err-claim_index_nodes
@@ -57,8 +58,26 @@ returns-in_err-visit g c = λ counted ready tree.
     let never = subst (λ r. IfErr r (λ _. (height : ℕ) (rest entering : List ℕ) → Completes bytes height walk.stage rest entering → height < 30 → length rest + length entering < walk.turns → ⊥)) was.1 refused in
     absurd (named_refused bytes table old ready start claimed c.loop-visit.claims c.loop-visit.before.now walk.stage walk.turns t never)
 
-pub loop-visit-preserved-in-Pass : goal.loop-visit-preserved-in-Pass
-loop-visit-preserved-in-Pass g c = record {
+pub loop-visit-preserved-in-Enter : goal.loop-visit-preserved-in-Enter
+loop-visit-preserved-in-Enter g c = record {
+  same = c.next.ensures.bytes ∙ c.loop-visit.invariant.same;
+  named = (λ counted ready claimed.
+      let bytes = c.args.self.now.bytes.bytes.now in
+      let walk = c.loop-visit.walk in
+      let new = c.next.new.self in
+      let t = c.loop-visit.invariant.named counted ready claimed in
+      let pointer = c.in-Enter.pointer in
+      let was = ok_was c.next.result c.map_err.result _ c.in_ok-visit.field-0 c.in_ok-visit.was c.map_err.ensures.cases in
+      let is : c.in_ok-visit.field-0 ≡ Some (Enter pointer) = c.in-Some.is ∙ ap Some c.in-Enter.is in
+      let stepped = steps_on bytes walk.bytes.bytes.now new.bytes.bytes.now walk.stage new.stage walk.turns new.turns c.next.result (Enter pointer) (was ∙ ap Ok is) c.next.ensures.bytes
+      c.loop-visit.invariant.same t.followed.steady c.next.ensures.fewer c.next.ensures.steady c.next.ensures.goes_on in
+      subst (λ (k : Known). Named bytes c.args.self.now.types.now c.args.claims.now ready c.claim_index_nodes.new.claims claimed k c.loop-visit.before.now new.stage new.turns) (sym c.look_ahead.ensures)
+      (named_enter bytes c.args.self.now.types.now c.args.claims.now ready c.claim_index_nodes.new.claims claimed
+      c.loop-visit.claims c.loop-visit.before.now walk.stage walk.turns t new.stage new.turns stepped.0 stepped.1 pointer stepped.2));
+}
+
+pub loop-visit-preserved : goal.loop-visit-preserved
+loop-visit-preserved g c = record {
   same = c.next.ensures.bytes ∙ c.loop-visit.invariant.same;
   named = (λ counted ready claimed.
       let bytes = c.args.self.now.bytes.bytes.now in
@@ -81,13 +100,13 @@ loop-visit-preserved-in-Pass g c = record {
       let rest = map (λ p. p + tree_words) next.0 in
       let at_is : c.entry_in.result ≡ node + tree_words = c.entry_in.ensures (omega arith) in
       let mid_ready = ready_roots bytes table start now (names_ahead claimed.index.entries []) (names_ahead (map (λ p. p + tree_words) t.rest) last) (tree_ready bytes table old ready start claimed) t.advances in
-      let step = c.in_ok-before.ensures.claimed rest mid_ready in
-      named_pass bytes table old ready start claimed now last walk.stage walk.turns t new.stage new.turns stepped.0 stepped.1 c.check_entry.new.claims c.in_ok-before.before.now node next.0 stepped.2 next.1
-      (subst (λ a. AdvancesRoots bytes table now c.check_entry.new.claims (names_ahead (a ∷ rest) last) (names_ahead rest c.in_ok-before.before.now)) at_is step));
+      let step = c.in_ok-before-in-Pass.ensures.claimed rest mid_ready in
+      named_pass bytes table old ready start claimed now last walk.stage walk.turns t new.stage new.turns stepped.0 stepped.1 c.check_entry.new.claims c.in_ok-before-in-Pass.before.now node next.0 stepped.2 next.1
+      (subst (λ a. AdvancesRoots bytes table now c.check_entry.new.claims (names_ahead (a ∷ rest) last) (names_ahead rest c.in_ok-before-in-Pass.before.now)) at_is step));
 }
 
-pub returns-in_err-before : goal.returns-in_err-before
-returns-in_err-before g c = λ counted ready tree.
+pub returns-in_err-before-in-Pass : goal.returns-in_err-before-in-Pass
+returns-in_err-before-in-Pass g c = λ counted ready tree.
     let bytes = c.args.self.now.bytes.bytes.now in
     let table = c.args.self.now.types.now in
     let old = c.args.claims.now in
@@ -110,35 +129,19 @@ returns-in_err-before g c = λ counted ready tree.
     let at_is : c.entry_in.result ≡ node + tree_words = c.entry_in.ensures (omega arith) in
     let ahead = names_ahead (map (λ p. p + tree_words) t.rest) last in
     let mid_ready = ready_roots bytes table start now (names_ahead claimed.index.entries []) ahead (tree_ready bytes table old ready start claimed) t.advances in
-    let e = c.in_err-before.field-0.0 in
-    let failed = err_from_is_err_and c.from_residual-in_err-before.result c.from_residual-in_err-before.ensures.1 in
+    let e = c.in_err-before-in-Pass.field-0.0 in
+    let failed = err_from_is_err_and c.from_residual-in_err-before-in-Pass.result c.from_residual-in_err-before-in-Pass.ensures.1 in
     let same : failed.0 ≡ e = failed.2 in
     subst (λ x. StepsIndex bytes table old c.check_entry.new.claims x) (sym (failed.1 ∙ ap Err same)) (
       (refuses_map e (CanResolveRoots bytes table now (names_ahead (c.entry_in.result ∷ rest) last)) (CanResolveIndex bytes table old)
           (λ can. subst (λ xs. CanResolveRoots bytes table now (names_ahead xs last)) (ap (map (λ p. p + tree_words)) next.1 ∙ sym (ap (λ a. a ∷ rest) at_is))
           (can_roots bytes table start now (names_ahead claimed.index.entries []) ahead t.advances (tree_names bytes table old ready start claimed tree can)))
-          (c.in_err-before.ensures.refused rest mid_ready)),
-      c.in_err-before.ensures.lacks mid_ready claimed.index rest
+          (c.in_err-before-in-Pass.ensures.refused rest mid_ready)),
+      c.in_err-before-in-Pass.ensures.lacks mid_ready claimed.index rest
           (subst (λ k. OpensIndex bytes k claimed.index) (sym tree) claimed.opens)
           (subst (λ xs. AreEntriesBefore bytes table claimed.index.entries xs last) (ap (map (λ p. p + tree_words)) next.1 ∙ sym (ap (λ a. a ∷ rest) at_is))
           (t.advances.named claimed.index.entries (record { before = []; entries_are = refl; last = no_name }))),
     )
-
-pub loop-visit-preserved : goal.loop-visit-preserved
-loop-visit-preserved g c = record {
-  same = c.next.ensures.bytes ∙ c.loop-visit.invariant.same;
-  named = (λ counted ready claimed.
-      let bytes = c.args.self.now.bytes.bytes.now in
-      let walk = c.loop-visit.walk in
-      let new = c.next.new.self in
-      let t = c.loop-visit.invariant.named counted ready claimed in
-      let pointer = c.in_default-visit.field-0 in
-      let was = ok_was c.next.result c.map_err.result _ c.in_ok-visit.field-0 c.in_ok-visit.was c.map_err.ensures.cases in
-      let is : c.in_ok-visit.field-0 ≡ Some (Enter pointer) = c.in-Some.is ∙ ap Some c.in_default-visit.is in
-      let stepped = steps_on bytes walk.bytes.bytes.now new.bytes.bytes.now walk.stage new.stage walk.turns new.turns c.next.result (Enter pointer) (was ∙ ap Ok is) c.next.ensures.bytes
-      c.loop-visit.invariant.same t.followed.steady c.next.ensures.fewer c.next.ensures.steady c.next.ensures.goes_on in
-      named_enter bytes c.args.self.now.types.now c.args.claims.now ready c.claim_index_nodes.new.claims claimed c.loop-visit.claims c.loop-visit.before.now walk.stage walk.turns t new.stage new.turns stepped.0 stepped.1 pointer stepped.2);
-}
 
 pub returns : goal.returns
 returns g c = λ counted ready tree.

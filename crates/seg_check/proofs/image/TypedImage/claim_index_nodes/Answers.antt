@@ -11,7 +11,8 @@ use Rattle.seg_check.proofs.Queue.QueueStepLaws.{refuses_map}
 use Rattle.seg_check.proofs.WalkStateLaws.{Followed, follow_start, steps_on, moves_on}
 use Rattle.seg_check.proofs.PlacedWalkLaws.{placed_link}
 use Rattle.seg_check.proofs.Contents.MapLaws.{ok_was, err_was}
-use Rattle.seg_check.proofs.Objects.TreeIndexLaws.{traced_start, traced_enter, traced_pass, traced_end, traced_live, traced_refused, traced_lacks, traced_ready, traced_can, index_node_claimed, index_node_can, index_node_lacks}
+use Rattle.seg_check.specs.Marks.{Known}
+use Rattle.seg_check.proofs.Objects.TreeIndexLaws.{Traced, traced_start, traced_enter, traced_pass, traced_end, traced_live, traced_refused, traced_lacks, traced_ready, traced_can, index_node_claimed, index_node_can, index_node_lacks}
 use Rattle.seg_check.proofs.Blocks.LackingBlockLaws.{ready_allocated}
 use Rattle.seg_check.specs.Positions.{LacksAt}
 use Rattle.seg_check.proofs.image.TypedImage.claim_index_nodes.Goals as goal
@@ -87,8 +88,8 @@ returns-in_err-claim_entries-clause-lacks g c = λ root nodes kind ready.
     (index_node_lacks bytes table old ready mid c.claim_entries.new.claims c.in-Enter.pointer 0 c.index_node-content.result said.tag_is said.size_is said.held_is kind now link e
     (c.in_err-claim_entries.ensures.lacks (ready_allocated bytes table mid now)))
 
-pub loop-visit-preserved-in_ok-claim_entries : goal.loop-visit-preserved-in_ok-claim_entries
-loop-visit-preserved-in_ok-claim_entries g c = record {
+pub loop-visit-preserved-in-Enter : goal.loop-visit-preserved-in-Enter
+loop-visit-preserved-in-Enter g c = record {
   root = c.next.ensures.root ∙ c.loop-visit.invariant.root;
   same = c.next.ensures.bytes ∙ c.loop-visit.invariant.same;
   traced = (λ root nodes ready.
@@ -104,10 +105,11 @@ loop-visit-preserved-in_ok-claim_entries g c = record {
       let is : c.in_ok-visit.field-0 ≡ Some (Enter c.in-Enter.pointer) = c.in-Some.is ∙ ap Some c.in-Enter.is in
       let stepped = steps_on bytes walk.bytes.bytes.now new.bytes.bytes.now walk.stage new.stage walk.turns new.turns c.next.result (Enter c.in-Enter.pointer) (was ∙ ap Ok is) c.next.ensures.bytes
       c.loop-visit.invariant.same t.followed.steady c.next.ensures.fewer c.next.ensures.steady c.next.ensures.goes_on in
-      traced_enter bytes table old ready mid walk.stage walk.turns t new.stage new.turns stepped.0 stepped.1 c.claim_entries.new.claims c.in-Enter.pointer c.in_ok-claim_entries.field-0 stepped.2
+      subst (λ (k : Known). Traced bytes table old ready k new.stage new.turns) (sym c.look_ahead.ensures)
+      (traced_enter bytes table old ready mid walk.stage walk.turns t new.stage new.turns stepped.0 stepped.1 c.claim_entries.new.claims c.in-Enter.pointer c.in_ok-claim_entries.field-0 stepped.2
       (moves_on bytes walk.bytes.bytes.now walk.stage new.stage c.next.result (Enter c.in-Enter.pointer) (was ∙ ap Ok is) c.loop-visit.invariant.same c.next.ensures.moves)
       (index_node_claimed bytes table old ready mid c.claim_entries.new.claims c.in-Enter.pointer c.in_ok-claim_entries.field-0 c.index_node-content.result said.tag_is said.size_is said.held_is
-      (c.in_ok-claim_entries.ensures.claimed (traced_live bytes table old ready mid walk.stage walk.turns t))));
+      (c.in_ok-claim_entries.ensures.claimed (traced_live bytes table old ready mid walk.stage walk.turns t)))));
 }
 
 pub returns-in_err-claim_entries-clause-refused : goal.returns-in_err-claim_entries-clause-refused
