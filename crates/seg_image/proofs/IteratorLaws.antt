@@ -1,6 +1,6 @@
 -- The next name, the next item and the next key, by the index of the last one.
 use Rattle.std.proofs.Common.{◌≡◌, ℕ, zero, suc, ◌+◌, ◌-◌, ◌<◌, ◌≤◌, ◌⊎◌, inl, inr, List, length, Option, Some, None, Result, Ok, Err, refl, sym, ap, subst, arith}
-use Rattle.std.specs.Prelude.{ℤ, slice_get, get_or, true, nat_lt, if◌then◌else◌, IsSomeAnd, IfOk, MatchResult}
+use Rattle.std.specs.Prelude.{ℤ, slice_get, get_or, true, nat_lt, if◌then◌else◌, IsSomeAnd, MatchResult}
 use Rattle.std.specs.Option.{option_map}
 use Rattle.std.specs.Result.{result_ok}
 use Rattle.std.proofs.lemmas.Bool.Decides.{nat_tests}
@@ -10,21 +10,16 @@ use Rattle.seg_spec.specs.Owning.{Stands}
 use Rattle.seg_spec.specs.Reads.{Place}
 use Rattle.seg_spec.specs.Types.{Form, Table, form_at}
 use Rattle.seg_spec.specs.Value.{Values, Map, IsAscending}
-use Rattle.seg_spec.specs.Items.{key_place}
 use Rattle.seg_index.specs.Lists.{root_after}
 use Rattle.seg_index.proofs.RootOrder.{InOrder, stands_there, found_next}
 use Rattle.seg_seq.specs.Sequences.{IsPast}
 use Rattle.seg_map.specs.EitherMap.{IsMapOf}
-use Rattle.seg_map.specs.Maps.{FindsEntry, first_of, keys_above}
+use Rattle.seg_map.specs.Maps.{first_of, keys_above}
 use Rattle.seg_map.proofs.KeyLaws as key_laws
 use Rattle.seg_map.proofs.FlatMaps as flat
 use Rattle.seg_map.proofs.TreeMaps as tree
 use Rattle.seg_raw.specs.declared.code.Code.{Code}
-use Rattle.seg_value.specs.Place as map_place
-use Rattle.seg_value.specs.CellPlaces.{place_of}
-use Rattle.seg_value.specs.Stored.{Stored}
-use Rattle.seg_image.specs.Places.{found_entry}
-use Rattle.seg_image.specs.Iterators.{item_before, ReturnsEntry}
+use Rattle.seg_image.specs.Iterators.{item_before}
 
 -- ---- names
 
@@ -85,15 +80,7 @@ key_next keys (suc n) ascending last e = key_laws.found_next keys last n (key_la
 pub no_key_before : (keys : List ℤ) (n : ℕ) → n ≤ length keys → None ≡ item_before keys n → n ≡ 0
 no_key_before keys n within e = none_before (λ k. k) keys n within (ap (option_map (λ k. k)) e)
 
--- the index of a key among the keys
-pub key_there : (keys : List ℤ) (n : ℕ) → IsAscending keys → (key : ℤ) → slice_get keys n ≡ Some key → key_place keys key ≡ Some n
-key_there keys n ascending key at = key_laws.found_place keys key n (key_laws.parted_at keys key n ascending at)
-
--- the entry that a call returned, by the index of its key
-pub entry_returned : (segment : Stored) (map : map_place.Place) (U : ℕ) (keys : List ℤ) (n : ℕ) (r : Result (ℤ × map_place.Place) Code) (o : Option (ℤ × map_place.Place)) → o ≡ result_ok r
-    → IfOk r (λ entry. IsMapOf (form_at segment.types map.type_id) entry.1.type_id) → FindsEntry segment.window.bytes segment.types (place_of map) U (slice_get keys n) (result_ok (found_entry r)) → ReturnsEntry segment map U keys n o
-entry_returned segment map U keys n (Ok entry) o is of_type h = rw is (record { key_is = h.key_is; value = record { of_type = of_type; finds = h.leads } })
-entry_returned segment map U keys n (Err code) o is of_type h = rw is (record { key_is = h.key_is; value = tt })
+-- ---- results that were made options
 
 pub ok_of : {X : Type 0} (r : Result X Code) (x : X) → Some x ≡ result_ok r → r ≡ Ok x
 ok_of (Ok y) x e = cc

@@ -6,9 +6,8 @@
 --                                  a position, if there is one, is where the item before an index is
 --     HasReturned segment U count iterator n
 --                                  it has returned the first n of `count` items of type U
---     HasKeyed keys iterator n     it has returned the first n of these keys
---     ReturnsEntry segment map U keys n result
---                                  the key with this index and the place of its value, or none after the last
+--     HasKeyed segment keys iterator n
+--                                  it has returned the first n of these keys, and its cursor is valid
 --     NamesNext, ItemsNext, KeysNext, EntriesNext
 --                                  what `next` returns: the next one, or none after the last
 use Rattle.std.specs.Prelude.{◌≡◌, ⊤, ℕ, zero, suc, ◌+◌, ◌-◌, ◌≤◌, ℤ, false, List, length, Option, Some, None, IsSomeAnd, MatchOption, slice_get}
@@ -18,6 +17,7 @@ use Rattle.seg_spec.specs.Sound.{Picture}
 use Rattle.seg_spec.specs.Reads as places
 use Rattle.seg_spec.specs.Types.{form_at}
 use Rattle.seg_spec.specs.Value.{Values, count}
+use Rattle.seg_rbtree.specs.Following.{LeadsInside}
 use Rattle.seg_value.specs.Place.{Place}
 use Rattle.seg_value.specs.CellPlaces.{place_of}
 use Rattle.seg_value.specs.Stored.{Stored}
@@ -93,7 +93,9 @@ pub record ItemsNext {S : Type 0} (allocator : S → ℕ) (stored : S → Stored
 
 -- ---- maps
 
-pub record HasKeyed {S : Type 0} (keys : List ℤ) (it : Keys S) (n : ℕ) : Type 0 where
+pub record HasKeyed {S : Type 0} (segment : Stored) (keys : List ℤ) (it : Keys S) (n : ℕ) :
+    Type 0 where
+  pub cursor : LeadsInside segment.window.bytes it.cursor
   pub last : it.last ≡ item_before keys n
   pub left : it.left + n ≡ length keys
 
@@ -102,8 +104,9 @@ pub record KeysNext {S : Type 0} (allocator : S → ℕ) (stored : S → Stored)
   pub image : new.image ≡ old.image
   pub map : new.map ≡ old.map
   pub next : WhereMap (allocator old.image.now) (stored old.image.now) old.map
-      (λ U keys vs blocks. (n : ℕ) → HasKeyed keys old n →
-      (result ≡ slice_get keys n) × MatchOption result ⊤ (λ key. HasKeyed keys new (suc n)))
+      (λ U keys vs blocks. (n : ℕ) → HasKeyed (stored old.image.now) keys old n →
+      (result ≡ slice_get keys n) ×
+      MatchOption result ⊤ (λ key. HasKeyed (stored old.image.now) keys new (suc n)))
 
 -- the value of a key of a map, at a place
 pub record IsMapEntry (segment : Stored) (map : Place) (U : ℕ) (keys : List ℤ) (key : ℤ)
@@ -112,19 +115,13 @@ pub record IsMapEntry (segment : Stored) (map : Place) (U : ℕ) (keys : List �
   pub finds : FindsValue segment.window.bytes segment.types (place_of map) U keys key
       (Some value.at)
 
--- the key with index n and the place of its value, or none after the last
-pub record ReturnsEntry (segment : Stored) (map : Place) (U : ℕ) (keys : List ℤ) (n : ℕ)
-    (result : Option (ℤ × Place)) : Type 0 where
-  pub key_is : option_map (λ entry. entry.0) result ≡ slice_get keys n
-  pub value : MatchOption result ⊤ (λ entry. IsMapEntry segment map U keys entry.0 entry.1)
-
 pub record EntriesNext {S : Type 0} (allocator : S → ℕ) (stored : S → Stored) (old : Entries S)
     (result : Option (ℤ × Place)) (new : Entries S) : Type 0 where
   pub image : new.0.image ≡ old.0.image
   pub map : new.0.map ≡ old.0.map
   pub next : WhereMap (allocator old.0.image.now) (stored old.0.image.now) old.0.map
-      (λ U keys vs blocks. (n : ℕ) → HasKeyed keys old.0 n →
+      (λ U keys vs blocks. (n : ℕ) → HasKeyed (stored old.0.image.now) keys old.0 n →
       (option_map (λ entry. entry.0) result ≡ slice_get keys n) ×
       MatchOption result ⊤
       (λ entry. IsMapEntry (stored old.0.image.now) old.0.map U keys entry.0 entry.1
-      × HasKeyed keys new.0 (suc n)))
+      × HasKeyed (stored old.0.image.now) keys new.0 (suc n)))

@@ -4,19 +4,25 @@
 ghost use Rattle.std.specs.Prelude.{◌≡◌, ◌<◌, ◌≤◌, ℕ, List, length, None, IsSomeAnd, MatchOption, slice_get};
 ghost use Rattle.std.specs.Iterator.{at_most};
 ghost use Rattle.std.specs.Option.{option_map};
+ghost use Rattle.std.specs.Result.{result_ok};
 ghost use Rattle.seg_spec.specs.Sound.{Picture};
 ghost use Rattle.seg_spec.specs.Value.{Values, count};
+ghost use Rattle.seg_rbtree.specs.Following.{LeadsInside};
 ghost use Rattle.seg_value.specs.CellPlaces.{place_of};
+ghost use Rattle.seg_map.specs.Maps.{FindsEntry};
 ghost use Rattle.seg_seq.specs.Lists.{HasList};
 ghost use Rattle.seg_seq.specs.Sequences.{HasItems, ShowsItem};
 ghost use Rattle.seg_manager.specs.NamedObjects.{DescribesRoot};
 ghost use Rattle.seg_manager.specs.Segments.{IsSegment};
-ghost use Rattle.seg_image.specs.Iterators.{item_before, NamesNext, ItemsNext, ShowsItemBefore, KeysNext, EntriesNext, ReturnsEntry};
+ghost use Rattle.seg_image.specs.Iterators.{item_before, NamesNext, ItemsNext, ShowsItemBefore, KeysNext, EntriesNext};
 ghost use Rattle.seg_image.specs.Places.{WhereMap};
 
-use crate::read::ImageRead;
+use crate::places::{placed_entry, value_type_at};
 use seg_layout::TypeId;
 use seg_manager::Named;
+use seg_map::KeyValue;
+use seg_raw::Code;
+use seg_rbtree::Path;
 use seg_value::{Place, SegmentRead, ValueAt};
 
 /// The names of an image in order, from [`ImageRead::names`].
@@ -45,6 +51,8 @@ pub struct Items<'a, S> {
 pub struct Keys<'a, S> {
     pub(crate) image: &'a S,
     pub(crate) map: Place,
+    /// The path to the last key in a tree map, from which the next key is one step.
+    pub(crate) cursor: Path,
     pub(crate) last: Option<i64>,
     pub(crate) left: u32,
 }
@@ -139,22 +147,10 @@ impl<'a, S: SegmentRead> Iterator for Keys<'a, S> {
 
     fn next(&mut self) -> Option<i64> {
         let left = self.left.checked_sub(1)?;
-        let key = key_after(self.image, self.map, self.last)?;
-        self.last = Some(key);
+        let entry = entry_after(self.image, &mut self.cursor, self.map, self.last).ok()?;
+        self.last = Some(entry.key);
         self.left = left;
-        Some(key)
-    }
-}
-
-/// The least key of a map above another one, or the least of all.
-fn key_after<S: SegmentRead>(image: &S, map: Place, last: Option<i64>) -> Option<i64>
-    ensures { WhereMap (S.allocator image.now) (S.stored image.now) map
-        (λ U keys vs blocks. (n : ℕ) → n ≤ length keys →
-        last ≡ item_before keys n → result ≡ slice_get keys n) }
-{
-    match last {
-        Some(key) => seg_map::next_key(image, map, key).ok(),
-        None => seg_map::first_key(image, map).ok(),
+        Some(entry.key)
     }
 }
 
@@ -166,22 +162,35 @@ impl<'a, S: SegmentRead> Iterator for Entries<'a, S> {
     ghost remaining = { λ entries. at_most entries.0.left };
 
     fn next(&mut self) -> Option<(i64, Place)> {
-        let left = self.0.left.checked_sub(1)?;
-        let entry = entry_after(self.0.image, self.0.map, self.0.last)?;
-        self.0.last = Some(entry.0);
-        self.0.left = left;
+        let keys = &mut self.0;
+        let left = keys.left.checked_sub(1)?;
+        let value = value_type_at(keys.image, keys.map).ok()?;
+        let found = entry_after(keys.image, &mut keys.cursor, keys.map, keys.last);
+        let entry = placed_entry(found, value).ok()?;
+        keys.last = Some(entry.0);
+        keys.left = left;
         Some(entry)
     }
 }
 
-/// The least key of a map above another one, or the least of all, with the place of its value.
-fn entry_after<S: SegmentRead>(image: &S, map: Place, last: Option<i64>) -> Option<(i64, Place)>
-    ensures { WhereMap (S.allocator image.now) (S.stored image.now) map
-        (λ U keys vs blocks. (n : ℕ) → n ≤ length keys →
-        last ≡ item_before keys n → ReturnsEntry (S.stored image.now) map U keys n result) }
+/// The least key of a map above another one, or the least of all, with the position of its value. In a tree map the
+/// cursor is left at the key, so the following call is one step.
+fn entry_after<S: SegmentRead>(
+    image: &S,
+    cursor: &mut Path,
+    map: Place,
+    last: Option<i64>,
+) -> Result<KeyValue, Code>
+    ensures next { LeadsInside (S.stored image.now).window.bytes cursor.old →
+        WhereMap (S.allocator image.now) (S.stored image.now) map
+        (λ U keys vs blocks. (n : ℕ) → n ≤ length keys → last ≡ item_before keys n →
+        FindsEntry (S.stored image.now).window.bytes (S.stored image.now).types (place_of map) U
+        (slice_get keys n) (result_ok result)) }
+    ensures inside { LeadsInside (S.stored image.now).window.bytes cursor.old →
+        LeadsInside (S.stored image.now).window.bytes cursor.new }
 {
     match last {
-        Some(key) => image.next_entry(map, key).ok(),
-        None => image.first_entry(map).ok(),
+        Some(key) => seg_map::next_entry_by(image, cursor, map, key),
+        None => seg_map::first_entry_by(image, cursor, map),
     }
 }

@@ -29,6 +29,7 @@ use crate::places::{
 use seg_layout::{Type, TypeId};
 use seg_manager::Named;
 use seg_raw::Code;
+use seg_rbtree::Path;
 use seg_value::{Place, SegmentRead};
 
 /// The size of a number in bytes.
@@ -459,7 +460,8 @@ pub trait ImageRead: SegmentRead {
         placed_entry(seg_map::previous_entry(self, map, before), value)
     }
 
-    /// The keys of a map in order. `OtherType` if the place isn't a map.
+    /// The keys of a map in order. `OtherType` if the place isn't a map. In a tree map each key is found from the one
+    /// before it.
     final fn keys(&self, map: Place) -> Result<Keys<'_, Self>, Code>
         ensures image { IfOk result (λ it. (it.image.now ≡ self.now) × (it.map ≡ map)) }
         ensures other { has_keys (form_at (Self.stored self.now).types map.type_id) ≡ false →
@@ -467,18 +469,21 @@ pub trait ImageRead: SegmentRead {
         ensures some { has_keys (form_at (Self.stored self.now).types map.type_id) ≡ true →
             IsOk result }
         ensures first { WhereMap (Self.allocator self.now) (Self.stored self.now) map
-            (λ U keys vs blocks. IfOk result (λ it. HasKeyed keys it 0)) }
+            (λ U keys vs blocks. IfOk result
+            (λ it. HasKeyed (Self.stored self.now) keys it 0)) }
     {
         let left = seg_map::len(self, map)?;
         Ok(Keys {
             image: self,
             map,
+            cursor: Path::new(map.at as usize),
             last: None,
             left,
         })
     }
 
-    /// The keys of a map in order, each with the place of its value. `OtherType` if the place isn't a map.
+    /// The keys of a map in order, each with the place of its value. `OtherType` if the place isn't a map. In a tree map
+    /// each key is found from the one before it.
     final fn entries(&self, map: Place) -> Result<Entries<'_, Self>, Code>
         ensures image { IfOk result (λ it. (it.0.image.now ≡ self.now) × (it.0.map ≡ map)) }
         ensures other { has_keys (form_at (Self.stored self.now).types map.type_id) ≡ false →
@@ -486,7 +491,8 @@ pub trait ImageRead: SegmentRead {
         ensures some { has_keys (form_at (Self.stored self.now).types map.type_id) ≡ true →
             IsOk result }
         ensures first { WhereMap (Self.allocator self.now) (Self.stored self.now) map
-            (λ U keys vs blocks. IfOk result (λ it. HasKeyed keys it.0 0)) }
+            (λ U keys vs blocks. IfOk result
+            (λ it. HasKeyed (Self.stored self.now) keys it.0 0)) }
     {
         Ok(Entries(self.keys(map)?))
     }

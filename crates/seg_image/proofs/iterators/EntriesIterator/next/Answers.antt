@@ -1,5 +1,6 @@
 use Rattle.std.proofs.Common.{rules, ◌≡◌, Some, None, refl, ap, ◌∙◌, w64, arith}
 use Rattle.std.proofs.lemmas.Int.{to_z-of_z}
+use Rattle.seg_image.proofs.IteratorLaws.{ok_of, err_of}
 use Rattle.seg_image.proofs.iterators.EntriesIterator.next.Goals as goal
 
 pub returns-in_err-entry-clause-steps : goal.returns-in_err-entry-clause-steps
@@ -8,7 +9,8 @@ returns-in_err-entry-clause-steps g c = record {
   map = refl;
   next = λ U keys vs blocks m s n h.
       let none : c.from_residual-in_err-entry.result ≡ None = search rules in
-      let at = c.in_err-entry.ensures U keys vs blocks m s n (omega (arith, h.left)) h.last in
+      let placed = err_of c.placed_entry.result c.in_err-entry.ensures.value in
+      let at = rw (← c.placed_entry.ensures.entry, placed.1) at c.entry_after-found.ensures.next h.cursor U keys vs blocks m s n (omega (arith, h.left)) h.last in
       rw none (at.key_is, tt);
 }
 
@@ -17,7 +19,16 @@ returns-clause-steps g c = record {
   image = refl;
   map = refl;
   next = λ U keys vs blocks m s n h.
-      let at = c.in_ok-entry.ensures U keys vs blocks m s n (omega (arith, h.left)) h.last in
-      let last = ap Some (to_z-of_z w64 c.in_ok-entry.entry.0 (search rules)) ∙ at.key_is in
-      (at.key_is, (at.value, record { last = last; left = omega (arith, h.left, c.in_ok-left.ensures) }));
+      let placed = ok_of c.placed_entry.result c.in_ok-entry.entry c.in_ok-entry.ensures.value in
+      let value = ok_of c.value_type_at.result c.in_ok-value.value c.in_ok-value.ensures.value in
+      let is_map = rw value at c.value_type_at.ensures in
+      let of_type = rw placed at c.placed_entry.ensures.of_type in
+      let at = rw (← c.placed_entry.ensures.entry, placed) at c.entry_after-found.ensures.next h.cursor U keys vs blocks m s n (omega (arith, h.left)) h.last in
+      let last = ap Some (to_z-of_z w64 c.in_ok-entry.entry.0 (search rules)) ∙ at.key_is in (
+        at.key_is,
+        (
+          record { of_type = rw of_type is_map.0; finds = at.leads },
+          record { cursor = c.entry_after-found.ensures.inside h.cursor; last = last; left = omega (arith, h.left, c.in_ok-left.ensures) },
+        ),
+      );
 }
