@@ -312,11 +312,13 @@ static void run_whole_calls(void)
     lezgauri_close(handle);
 }
 
-/* Runs on an open segment request no copy of the image, except lezgauri_run_whole, and no memory for the output. */
+/* Runs on an open segment request no copy of the image, except lezgauri_run_whole, and no memory for the output. Only the first one requests
+ * memory for the segment's types. */
 static void memory_of_runs(void)
 {
     lezgauri_handle *handle = opened();
     char *output = room(1 << 20);
+    expect("memory of the types", lezgauri_run_on(handle, client, client_len, NULL, 0, output, 3, NULL, NULL, NULL), LEZGAURI_OK);
     watch(NULL);
     expect("memory of run on", lezgauri_run_on(handle, client, client_len, NULL, 0, output, 3, NULL, NULL, NULL), LEZGAURI_OK);
     size_t little = asked;
@@ -473,15 +475,22 @@ static void client_types(void)
     lezgauri_close(other);
 }
 
-/* An export, and memory that is lent to it, as in include/lezgauri.c. */
+/* Exports, and memory and types that are lent to them, as in include/lezgauri.c. */
 typedef struct lent {
     uint8_t *at;
     size_t len;
     size_t room;
 } lent;
 
-uint32_t lezgauri_raw_run_on(lent *image, const uint8_t *client, size_t client_len, const uint8_t *input, size_t input_len,
-                             lent *output, lezgauri_report *report, lezgauri_fault *fault);
+typedef struct kept_types {
+    void *at;
+    bool is_there;
+} kept_types;
+
+uint32_t lezgauri_raw_open_types(const uint8_t *image, size_t len, kept_types *types);
+void lezgauri_raw_close_types(kept_types *types);
+uint32_t lezgauri_raw_run_on(lent *image, kept_types *types, const uint8_t *client, size_t client_len, const uint8_t *input,
+                             size_t input_len, lent *output, lezgauri_report *report, lezgauri_fault *fault);
 
 static void came_back(const char *name, lent memory, const uint8_t *at, size_t len, size_t capacity)
 {
@@ -499,21 +508,29 @@ static void lent_memory(void)
     memset(output, 0x55, 16);
     lent segment = {bytes, image_len, image_len};
     lent printed = {output, 0, 16};
-    expect("lent", lezgauri_raw_run_on(&segment, client, client_len, output, 0, &printed, &report, &fault), LEZGAURI_OK);
+    kept_types types = {NULL, false};
+    expect("lent, no types", lezgauri_raw_run_on(&segment, &types, client, client_len, output, 0, &printed, &report, &fault),
+           LEZGAURI_BAD_ARGUMENT);
+    expect("lent, no types: number", fault.number, LEZGAURI_BAD_ARGUMENT);
+    came_back("lent, no types: the image", segment, bytes, image_len, image_len);
+    came_back("lent, no types: the output", printed, output, 0, 16);
+    expect("lent: the types", lezgauri_raw_open_types(bytes, image_len, &types), LEZGAURI_OK);
+    expect("lent", lezgauri_raw_run_on(&segment, &types, client, client_len, output, 0, &printed, &report, &fault), LEZGAURI_OK);
     came_back("lent: the image", segment, bytes, image_len, image_len);
     came_back("lent: the output", printed, output, 3, 16);
     expect("lent: printed", (uint64_t)memcmp(output, "42\n\x55", 4), 0);
-    expect("lent: more behind it", lezgauri_raw_run_on(&segment, client, client_len, output, 0, &printed, &report, &fault),
+    expect("lent: more behind it", lezgauri_raw_run_on(&segment, &types, client, client_len, output, 0, &printed, &report, &fault),
            LEZGAURI_OK);
     came_back("lent: more behind it: the output", printed, output, 6, 16);
     expect("lent: more behind it: printed", (uint64_t)memcmp(output, "42\n43\n\x55", 7), 0);
-    expect("lent, a cut client", lezgauri_raw_run_on(&segment, client, client_len - 1, output, 0, &printed, &report, &fault),
+    expect("lent, a cut client", lezgauri_raw_run_on(&segment, &types, client, client_len - 1, output, 0, &printed, &report, &fault),
            LEZGAURI_BAD_CODE);
     came_back("lent, a cut client: the image", segment, bytes, image_len, image_len);
     came_back("lent, a cut client: the output", printed, output, 6, 16);
     memset(bytes, 0xFF, image_len);
-    lezgauri_raw_run_on(&segment, client, client_len, output, 0, &printed, &report, &fault);
+    lezgauri_raw_run_on(&segment, &types, client, client_len, output, 0, &printed, &report, &fault);
     came_back("lent bytes that are no image", segment, bytes, image_len, image_len);
+    lezgauri_raw_close_types(&types);
     free(bytes);
     free(output);
 }

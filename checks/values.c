@@ -1373,6 +1373,43 @@ static void refused_memory(void)
     free_memory(memory);
 }
 
+/* The first call on a client takes memory for a segment's types. Once they are known, a run of a prepared client takes none. */
+static void memory_of_clients(void)
+{
+    static const uint8_t no_client[20] = {'S', 'E', 'G', 'C', 1};
+    uint8_t *memory = new_memory();
+    lezgauri_place places[TYPES];
+    lezgauri_handle *handle = NULL, *other = NULL;
+    lezgauri_client *client = NULL;
+    lezgauri_fault fault;
+    lezgauri_close(filled(memory, LEZGAURI_BEST_FIT, LEZGAURI_FLAT_INDEX, places));
+    done("open in", lezgauri_open_in(memory, SIZE, SIZE, &handle, NULL));
+    done("open in", lezgauri_open_in(memory, SIZE, SIZE, &other, NULL));
+    watch(1, NULL);
+    expect("prepare, no memory", lezgauri_prepare(handle, no_client, sizeof no_client, &client, &fault), LEZGAURI_MEMORY);
+    expect("prepare, no memory: number", fault.number, LEZGAURI_MEMORY);
+    expect("prepare, no memory: none", client != NULL, 0);
+    watch(0, NULL);
+    done("prepare", lezgauri_prepare(handle, no_client, sizeof no_client, &client, NULL));
+    watch(1, NULL);
+    expect("run client, no memory", lezgauri_run_client(other, client, NULL, 0, NULL, 0, NULL, NULL, &fault), LEZGAURI_MEMORY);
+    expect("run client, no memory: number", fault.number, LEZGAURI_MEMORY);
+    watch(1, NULL);
+    expect("run on, no memory", lezgauri_run_on(other, no_client, sizeof no_client, NULL, 0, NULL, 0, NULL, NULL, &fault),
+           LEZGAURI_MEMORY);
+    expect("run on, no memory: number", fault.number, LEZGAURI_MEMORY);
+    watch(1, NULL);
+    done("run client, known types", lezgauri_run_client(handle, client, NULL, 0, NULL, 0, NULL, NULL, NULL));
+    expect("run client, known types: no request for memory", requests, 0);
+    watch(0, NULL);
+    done("run client, memory", lezgauri_run_client(other, client, NULL, 0, NULL, 0, NULL, NULL, NULL));
+    expect("run client, memory: requests", requests, 1);
+    lezgauri_client_close(client);
+    lezgauri_close(handle);
+    lezgauri_close(other);
+    free_memory(memory);
+}
+
 /* ---- threads that read one image */
 
 enum { THREADS = 4, ROUNDS = 2000 };
@@ -1460,6 +1497,7 @@ int main(void)
     invalid_changes();
     busy_calls();
     refused_memory();
+    memory_of_clients();
     threads();
     printf("%d calls and results on values, %d wrong\n", made, wrong);
     return wrong > 0;

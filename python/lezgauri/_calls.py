@@ -317,7 +317,8 @@ class Client(Closeable):
     def __call__(
         self, segment: Segment, input: Buffer = b"", *, output: Optional[WritableBuffer] = None, capacity: int = CAPACITY
     ) -> Result:
-        """Runs the client on an open segment, in place. It takes no memory of the library.
+        """Runs the client on an open segment, in place. It takes no memory of the library, unless it is the first call on values or
+        clients of this segment.
 
         input     the bytes that the client reads
         output    a writable buffer for what it prints

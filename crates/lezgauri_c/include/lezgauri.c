@@ -24,8 +24,8 @@ typedef struct kept {
     bool is_there;
 } kept;
 
-/* The types of a segment as calls on values need them, or none. It is `KeptTypes` of the crate lezgauri_c. Only the library reads and
- * writes what `at` points to. */
+/* The types of a segment as calls on values and clients need them, or none. It is `KeptTypes` of the crate lezgauri_c. Only the library
+ * reads and writes what `at` points to. */
 typedef struct kept_types {
     void *at;
     bool is_there;
@@ -52,17 +52,10 @@ uint32_t lezgauri_raw_verify(const uint8_t *image, size_t len, const uint8_t *cl
 uint32_t lezgauri_raw_run(const uint8_t *image, size_t image_len, const lezgauri_bytes *clients, size_t count,
                           const uint8_t *input, size_t input_len, lent *output, uint8_t *saved, size_t saved_len,
                           lezgauri_report *reports, size_t reports_len, lezgauri_fault *fault);
-uint32_t lezgauri_raw_run_on(lent *image, const uint8_t *client, size_t client_len, const uint8_t *input, size_t input_len,
-                             lent *output, lezgauri_report *report, lezgauri_fault *fault);
-uint32_t lezgauri_raw_run_whole(lent *image, const uint8_t *client, size_t client_len, const uint8_t *input, size_t input_len,
-                                lent *output, size_t *needed, lezgauri_report *report, lezgauri_fault *fault);
 uint32_t lezgauri_raw_create(lent *memory, uint32_t size, uint32_t allocator, uint32_t index);
 uint32_t lezgauri_raw_grow(lent *image, uint32_t extra);
 uint32_t lezgauri_raw_shrink(lent *image);
 uint32_t lezgauri_raw_free_memory(lent *image, uint32_t *all, uint32_t *largest);
-uint32_t lezgauri_raw_prepare(lent *image, const uint8_t *client, size_t client_len, kept *prepared, lezgauri_fault *fault);
-uint32_t lezgauri_raw_run_client(lent *image, kept *prepared, const uint8_t *input, size_t input_len, lent *output,
-                                 lezgauri_report *report, lezgauri_fault *fault);
 void lezgauri_raw_client_close(kept *prepared);
 uint32_t lezgauri_raw_types(const uint8_t *image, size_t len, uint8_t *entries, size_t entries_len, size_t *count);
 uint32_t lezgauri_raw_assemble(const uint8_t *text, size_t text_len, uint8_t *file, size_t file_len, size_t *needed,
@@ -70,9 +63,20 @@ uint32_t lezgauri_raw_assemble(const uint8_t *text, size_t text_len, uint8_t *fi
 uint32_t lezgauri_raw_print(const uint8_t *file, size_t file_len, uint8_t *text, size_t text_len, size_t *needed,
                             lezgauri_fault *fault);
 
-/* The exports that read values of an image, with the types that lezgauri_raw_open_types read from it. */
+/* The types of an image, for the exports below. */
 uint32_t lezgauri_raw_open_types(const uint8_t *image, size_t len, kept_types *types);
 void lezgauri_raw_close_types(kept_types *types);
+
+/* The exports that prepare and run one client, with the types that lezgauri_raw_open_types read from the image. */
+uint32_t lezgauri_raw_prepare(kept_types *types, const uint8_t *client, size_t client_len, kept *prepared, lezgauri_fault *fault);
+uint32_t lezgauri_raw_run_client(lent *image, kept_types *types, kept *prepared, const uint8_t *input, size_t input_len, lent *output,
+                                 lezgauri_report *report, lezgauri_fault *fault);
+uint32_t lezgauri_raw_run_on(lent *image, kept_types *types, const uint8_t *client, size_t client_len, const uint8_t *input,
+                             size_t input_len, lent *output, lezgauri_report *report, lezgauri_fault *fault);
+uint32_t lezgauri_raw_run_whole(lent *image, kept_types *types, const uint8_t *client, size_t client_len, const uint8_t *input,
+                                size_t input_len, lent *output, size_t *needed, lezgauri_report *report, lezgauri_fault *fault);
+
+/* The exports that read values of an image, with the same types. */
 uint32_t lezgauri_raw_find(const uint8_t *image, size_t len, kept_types *types, const uint8_t *name, size_t name_len, uint32_t type,
                            uint32_t index, lezgauri_place *place);
 uint32_t lezgauri_raw_named_object(const uint8_t *image, size_t len, kept_types *types, const uint8_t *name, size_t name_len,
@@ -111,7 +115,7 @@ uint32_t lezgauri_raw_previous_entry(const uint8_t *image, size_t len, kept_type
 uint32_t lezgauri_raw_content(const uint8_t *image, size_t len, kept_types *types, uint32_t at, uint32_t type,
                               lezgauri_place *content);
 
-/* The exports that change an image. All but the first two take the types that lezgauri_raw_open_types read from it. */
+/* The exports that change an image. All but the first two take the same types. */
 uint32_t lezgauri_raw_add_types(lent *image, const uint8_t *entries, size_t len, lezgauri_fault *fault);
 uint32_t lezgauri_raw_upgrade(lent *image);
 uint32_t lezgauri_raw_construct(lent *image, kept_types *types, const uint8_t *name, size_t name_len, uint32_t type, uint32_t count,
@@ -223,12 +227,16 @@ static bool is_apart(span part, memory of, size_t itself)
     return true;
 }
 
-/* Whether each span that a call writes to overlaps no other span. */
+/* Whether each span that a call writes to overlaps no other span. Each pair is compared once, because a span before a written one is
+ * written too. */
 static bool are_apart(memory of)
 {
     for (size_t i = 0; i < of.written; i++) {
-        if (!is_apart(of.spans[i], of, i)) {
-            return false;
+        span part = of.spans[i];
+        for (size_t j = i + 1; part.len > 0 && j < of.count; j++) {
+            if (overlap(part, of.spans[j])) {
+                return false;
+            }
         }
     }
     return true;
@@ -385,7 +393,7 @@ struct lezgauri_handle {
     atomic_size_t room; /* the bytes from `image` on that the segment may grow into */
     memory_kind kind;
     atomic_flag busy;         /* while a call uses the segment */
-    kept_types types;         /* none before the first call on values, unless the segment is open only for reading */
+    kept_types types;         /* none before the first call on values or clients, unless the segment is open only for reading */
     size_t table_len;         /* the bytes of `table` to the end of its first unused entry */
     uint8_t table[TABLE_LEN]; /* the image's type table when `types` were read */
 };
@@ -453,7 +461,7 @@ static lezgauri_handle *new_handle(uint8_t *place, size_t len, size_t room, memo
     return made;
 }
 
-/* Reads the types of a segment for the calls on values. */
+/* Reads the types of a segment for the calls on values and clients. */
 static uint32_t read_types(lezgauri_handle *handle)
 {
     const uint8_t *image = handle->image;
@@ -468,6 +476,33 @@ static uint32_t read_types(lezgauri_handle *handle)
         handle->table_len = used < TABLE_LEN ? used + sizeof(lezgauri_type) : TABLE_LEN;
     }
     return status;
+}
+
+/* Whether the types that the handle keeps are the segment's. Other handles and runs may have added types: then the first unused entry
+ * differs. */
+static bool has_types(const lezgauri_handle *handle)
+{
+    return handle->kind == LENT_TO_READ ||
+           (handle->types.is_there && memcmp(handle->table, handle->image + TABLE_AT, handle->table_len) == 0);
+}
+
+/* Marks a segment as busy, and reads its types if it has new ones. LEZGAURI_OK, or why the call is refused. */
+static uint32_t begin_with_types(lezgauri_handle *handle)
+{
+    if (!acquire(&handle->busy)) {
+        return LEZGAURI_BUSY;
+    }
+    uint32_t status = has_types(handle) ? LEZGAURI_OK : read_types(handle);
+    if (status != LEZGAURI_OK) {
+        release(&handle->busy);
+    }
+    return status;
+}
+
+/* The same for a call that changes the segment. */
+static uint32_t begin_change_with_types(lezgauri_handle *handle)
+{
+    return handle->kind == LENT_TO_READ ? LEZGAURI_READ_ONLY : begin_with_types(handle);
 }
 
 /* Opens the image in this memory. If it isn't opened, memory that isn't lent is freed. */
@@ -770,8 +805,9 @@ uint32_t lezgauri_prepare(const lezgauri_handle *handle, const void *client, siz
         !are_apart(of)) {
         return refuse(LEZGAURI_BAD_ARGUMENT, fault, of);
     }
-    if (!acquire(&flagged(handle)->busy)) {
-        return refuse(LEZGAURI_BUSY, fault, of);
+    uint32_t status = begin_with_types(flagged(handle));
+    if (status != LEZGAURI_OK) {
+        return refuse(status, fault, of);
     }
     lezgauri_client *made = malloc(sizeof *made + client_len);
     if (made == NULL) {
@@ -782,9 +818,8 @@ uint32_t lezgauri_prepare(const lezgauri_handle *handle, const void *client, siz
     made->len = client_len;
     atomic_flag_clear(&made->busy);
     memcpy(made->bytes, or_empty(client), client_len);
-    lent image = image_of(handle);
     lezgauri_fault told;
-    uint32_t status = lezgauri_raw_prepare(&image, made->bytes, client_len, &made->prepared, &told);
+    status = lezgauri_raw_prepare(&flagged(handle)->types, made->bytes, client_len, &made->prepared, &told);
     release(&flagged(handle)->busy);
     if (status == LEZGAURI_OK) {
         *prepared = made;
@@ -818,10 +853,10 @@ typedef struct run_arguments {
     lezgauri_fault *fault;
 } run_arguments;
 
-/* Marks the segment and the client as busy. LEZGAURI_OK, or why the run is refused. */
+/* Marks the segment, whose types the run needs, and the client as busy. LEZGAURI_OK, or why the run is refused. */
 static uint32_t acquire_both(const run_arguments *with)
 {
-    uint32_t status = begin_change(with->handle);
+    uint32_t status = begin_change_with_types(with->handle);
     if (status == LEZGAURI_OK && with->prepared != NULL && !acquire(&with->prepared->busy)) {
         release(&with->handle->busy);
         return LEZGAURI_BUSY;
@@ -861,19 +896,20 @@ static uint32_t run_on(const run_arguments *with, run_kind kind)
         return refuse(status, with->fault, of);
     }
     lent image = image_of(with->handle);
+    kept_types *types = &with->handle->types;
     lent printed = {or_room(with->output), 0, with->capacity};
     size_t length = 0;
     lezgauri_report reported = {0};
     lezgauri_fault told;
     if (kind == RUN_WHOLE) {
-        status = lezgauri_raw_run_whole(&image, or_empty(with->client), with->client_len, or_empty(with->input), with->input_len,
-                                        &printed, &length, &reported, &told);
+        status = lezgauri_raw_run_whole(&image, types, or_empty(with->client), with->client_len, or_empty(with->input),
+                                        with->input_len, &printed, &length, &reported, &told);
     } else if (kind == RUN_CLIENT) {
-        status = lezgauri_raw_run_client(&image, &with->prepared->prepared, or_empty(with->input), with->input_len, &printed,
+        status = lezgauri_raw_run_client(&image, types, &with->prepared->prepared, or_empty(with->input), with->input_len, &printed,
                                          &reported, &told);
         length = printed.len;
     } else {
-        status = lezgauri_raw_run_on(&image, or_empty(with->client), with->client_len, or_empty(with->input), with->input_len,
+        status = lezgauri_raw_run_on(&image, types, or_empty(with->client), with->client_len, or_empty(with->input), with->input_len,
                                      &printed, &reported, &told);
         length = printed.len;
     }
@@ -1008,27 +1044,6 @@ static bool may_return(const lezgauri_handle *handle, const void *at, size_t len
 static bool may_return_place(const lezgauri_handle *handle, const lezgauri_place *place)
 {
     return may_return(handle, place, sizeof *place, _Alignof(lezgauri_place));
-}
-
-/* Whether the types that the handle keeps are the segment's. Other handles and runs may have added types: then the first unused entry
- * differs. */
-static bool has_types(const lezgauri_handle *handle)
-{
-    return handle->kind == LENT_TO_READ ||
-           (handle->types.is_there && memcmp(handle->table, handle->image + TABLE_AT, handle->table_len) == 0);
-}
-
-/* Marks a segment as busy, and reads its types if it has new ones. LEZGAURI_OK, or why the call is refused. */
-static uint32_t begin_with_types(lezgauri_handle *handle)
-{
-    if (!acquire(&handle->busy)) {
-        return LEZGAURI_BUSY;
-    }
-    uint32_t status = has_types(handle) ? LEZGAURI_OK : read_types(handle);
-    if (status != LEZGAURI_OK) {
-        release(&handle->busy);
-    }
-    return status;
 }
 
 /* Begins a call that reads values, and returns something if `is_allowed`. */
@@ -1262,10 +1277,7 @@ static uint32_t begin_values(lezgauri_handle *handle, bool is_allowed, lent *ima
     if (!is_allowed) {
         return LEZGAURI_BAD_ARGUMENT;
     }
-    if (handle->kind == LENT_TO_READ) {
-        return LEZGAURI_READ_ONLY;
-    }
-    uint32_t status = begin_with_types(handle);
+    uint32_t status = begin_change_with_types(handle);
     *image = image_of(handle);
     return status;
 }
@@ -1379,13 +1391,7 @@ uint32_t lezgauri_destroy_anonymous(lezgauri_handle *handle, lezgauri_place obje
 
 uint32_t lezgauri_store(lezgauri_handle *handle, lezgauri_place place, int64_t number)
 {
-    if (handle == NULL) {
-        return LEZGAURI_BAD_ARGUMENT;
-    }
-    if (handle->kind == LENT_TO_READ) {
-        return LEZGAURI_READ_ONLY;
-    }
-    uint32_t status = begin_with_types(handle);
+    uint32_t status = handle != NULL ? begin_change_with_types(handle) : LEZGAURI_BAD_ARGUMENT;
     return status != LEZGAURI_OK ? status : end(handle, lezgauri_raw_store(SEGMENT(handle), place.at, place.type, number));
 }
 

@@ -157,6 +157,9 @@ uint32_t lezgauri_run(const void *image, size_t image_len, const lezgauri_bytes 
  * A segment that stays open, so that its image is checked once for many runs. Its memory is a block from malloc (lezgauri_open,
  * lezgauri_create), or it is lent by the caller (lezgauri_open_in, lezgauri_create_in). Only the calls below may write it until
  * lezgauri_close: a run relies on the image being sound.
+ *
+ * The first call on values or clients reads the segment's types, into memory from malloc that lezgauri_close frees. It returns
+ * LEZGAURI_MEMORY if malloc refuses. If another handle or a client adds types, the next call reads them again in the same memory.
  */
 typedef struct lezgauri_handle lezgauri_handle;
 
@@ -263,8 +266,9 @@ uint32_t lezgauri_image(const lezgauri_handle *handle, lezgauri_bytes *image);
  * After a fault nothing ran, and the segment is unchanged. After LEZGAURI_OUTPUT_FULL the client ran until the output had no room, and the
  * segment has its changes up to then.
  *
- * The client works in place: nothing of the image or of the output is copied, and malloc is only asked for the decoded client. If a
- * crash interrupts the run, the segment is half changed: save it before, or use lezgauri_run_whole.
+ * The client works in place: nothing of the image or of the output is copied, and malloc is only asked for the decoded client, and by the
+ * first call on values or clients for the segment's types. If a crash interrupts the run, the segment is half changed: save it before, or
+ * use lezgauri_run_whole.
  */
 uint32_t lezgauri_run_on(lezgauri_handle *handle, const void *client, size_t client_len, const void *input,
                          size_t input_len, void *output, size_t capacity, size_t *written, lezgauri_report *report,
@@ -298,9 +302,11 @@ uint32_t lezgauri_prepare(const lezgauri_handle *handle, const void *client, siz
                           lezgauri_fault *fault);
 
 /*
- * Runs a prepared client on an open segment, as lezgauri_run_on does, but verifies and decodes nothing and takes nothing from malloc.
- * LEZGAURI_TYPE_MISMATCH if the segment's types and the client's differ, for example after another client added types. It is the only
- * fault; then nothing ran.
+ * Runs a prepared client on an open segment, as lezgauri_run_on does, but verifies and decodes nothing. It takes nothing from malloc,
+ * unless it is the first call on values or clients of this handle: then it reads the segment's types.
+ *
+ * LEZGAURI_TYPE_MISMATCH if the segment's types and the client's differ, for example after another client added types. The only other fault
+ * is LEZGAURI_MEMORY, of the first call. After a fault nothing ran.
  */
 uint32_t lezgauri_run_client(lezgauri_handle *handle, lezgauri_client *prepared, const void *input, size_t input_len,
                              void *output, size_t capacity, size_t *written, lezgauri_report *report, lezgauri_fault *fault);

@@ -1235,8 +1235,8 @@ public:
     [[nodiscard]] lezgauri_client *release() noexcept { return prepared_.release(); }
     void close() noexcept { prepared_.reset(); }
 
-    // lezgauri_run_client: runs the client in place on an open segment, and takes no memory. Refused with `type_mismatch` if the segment's
-    // types and the client's differ.
+    // lezgauri_run_client: runs the client in place on an open segment. It takes no memory, unless it is the first call on values or
+    // clients of this segment. Refused with `type_mismatch` if the segment's types and the client's differ.
     template <class Other>
     [[nodiscard]] detail::result_of<Policy, ran> operator()(basic_segment<Other> &segment, const_bytes input = {},
                                                             mutable_bytes output = {}) noexcept(Policy::is_noexcept)

@@ -1,20 +1,18 @@
 -- A client that is ready was accepted, so it is verified wherever its types agree with a table.
-use Rattle.std.proofs.Common.{◌≡◌, ℕ, ◌^◌, List, [], ◌∷◌, refl, arith}
-use Rattle.std.specs.Prelude.{Err, Result, Some}
+use Rattle.std.proofs.Common.{◌≡◌, ℕ, ◌^◌, [], ◌∷◌, refl, sym, subst, arith}
+use Rattle.std.specs.Prelude.{Some}
 use Rattle.std.specs.Global.{Global}
 use Rattle.std.proofs.Math.Logic.{∥∥₁_elim}
 use Rattle.seg_spec.specs.Types.{Table, Agree, IsFirstDifference}
+use Rattle.seg_raw.specs.declared.fault.Fault.{Fault}
 use Rattle.seg_raw.specs.declared.fault.Fault.TheVariants as fault
-use Rattle.lezgauri.specs.Faults.{IsImageOf}
 use Rattle.client_spec.specs.Syntax.{Client}
 use Rattle.client_spec.specs.Grammar.{SpellsClient}
 use Rattle.client_spec.specs.Clients.{IsVerified}
 use Rattle.lezgauri.specs.VerifierConstants.{MOST_STEPS}
+use Rattle.lezgauri.specs.Texts.{AreWrong}
 use Rattle.client_vm.specs.declared.ready.Ready.{Ready}
 use Rattle.client_vm.proofs.AcceptedLaws.{accepted_so}
-use Rattle.lezgauri.specs.Refused.{Refused}
-use Rattle.client_vm.specs.Admitted.{IsWrong}
-use Rattle.client_vm.proofs.RefusalLaws.{if_wrong}
 use Rattle.lezgauri_c.specs.Prepared.{client_bytes_of}
 use Rattle.lezgauri_c.proofs.OneClient.{only_wrong}
 
@@ -31,12 +29,10 @@ module _ (ready : Ready Global) (client : Client) (spells : SpellsClient (client
       }
 
   -- if the types don't agree, the fault is the first type that differs
-  pub differs_on : (image : List ℕ) → IsImageOf image table → (k : ℕ) → IsFirstDifference table client.types k
-      → IsWrong image (client_bytes_of ready ∷ []) (record { client = Some 0; fault = fault.TypeMismatch k })
-  differs_on image is k first =
-      let refused : Refused = record { client = Some 0; fault = fault.TypeMismatch k } in
-      let result : Result (Unit {0}) Refused = Err refused in
-      if_wrong image (client_bytes_of ready ∷ []) table is result (only_wrong table (client_bytes_of ready) (fault.TypeMismatch k) (client, spells, first))
+  pub differs_on : (f : Fault) (k : ℕ) → f ≡ fault.TypeMismatch k → IsFirstDifference table client.types k → AreWrong table (client_bytes_of ready ∷ []) (record { client = Some 0; fault = f })
+  differs_on f k is first =
+      subst (λ (g : Fault). AreWrong table (client_bytes_of ready ∷ []) (record { client = Some 0; fault = g })) (sym is)
+      (only_wrong table (client_bytes_of ready) (fault.TypeMismatch k) (client, spells, first))
 
 -- at most one client is kept
 pub one_kept : (x y : Ready Global) → Some x ≡ Some y → x ≡ y

@@ -1,7 +1,7 @@
 -- Calls from C that change the image in lent memory, by one call of `Image`.
 --     TellsDone, TellsFound   the status reports the result of a call
 --     IsOpenedOn lent types kept
---                             the kept image has the lent memory, and is open if that is a sound
+--                             the kept image is the lent memory, and is open if that is a sound
 --                             image whose types C keeps
 --     OnImage old new picture claim
 --                             the sound image was open, and then had other bytes; the claim is
@@ -28,6 +28,7 @@ use Rattle.seg_spec.specs.Sound.{Picture}
 use Rattle.seg_spec.specs.Roots.{IsReached}
 use Rattle.seg_spec.specs.Types.{Table, Agree, Spells, IsFirstWrong, IsFirstDifference, longer}
 use Rattle.seg_spec.specs.Images.{IsSound, upgraded}
+use Rattle.seg_spec.specs.Window.{region_of}
 use Rattle.seg_raw.specs.declared.fault.Fault as seg_raw_fault
 use Rattle.seg_raw.specs.declared.fault.Fault.TheVariants as fault
 use Rattle.seg_raw.specs.declared.code.Code.{Code}
@@ -61,6 +62,8 @@ TellsFound status false = status ≡ 113
 
 pub record IsOpenedOn (lent : Lent) (types : KeptTypes) (kept : KeptImage) : Type 0 where
   pub bytes : bytes_in kept.image ≡ lent.bytes
+  pub region : region_of (segment_of kept.image).window ≡ lent.bytes
+  pub base : length (segment_of kept.image).window.before ≡ 0
   pub home : (segment_of kept.image).window.home ≡ memory_of lent
   pub types_are : table_in types ≡ Some (table_kept kept)
   pub opened : OnSound lent.bytes types (λ picture. IsOpen kept.image picture)

@@ -11,6 +11,7 @@
 --                               why an image isn't opened for a call, and the call's status
 --     stored_in, allocator_in   the segment that is the whole of an image, and its allocator
 --     OnSound image types P     if the image is sound and C keeps its types, P is true of its picture
+--     KeepsTypes image types    the image is sound, and C keeps its types
 --     ShowsNext segment list U n i result, ShowsPrevious segment list U i result
 --                               the position of the item after or before item i of n, or `Null` if there is
 --                               none
@@ -86,6 +87,10 @@ allocator_in image = word image allocator_word
 abbrev pub OnSound : List ℕ → KeptTypes → (Picture → Type 0) → Type 0
 OnSound image types P = (sound : IsSound image) →
     table_in types ≡ Some sound.picture.table → P sound.picture
+
+pub record KeepsTypes (image : List ℕ) (types : KeptTypes) : Type 0 where
+  pub sound : IsSound image
+  pub table_is : table_in types ≡ Some sound.picture.table
 
 -- ---- items of a list
 

@@ -1,8 +1,9 @@
-//! What all exports that change an image have in common: the image in lent memory is opened for one call of `Image`, without a check and
-//! without reading its types, which C keeps.
-//! The image keeps its version. Only images of version 2 have shared types, so no call makes a frozen object in an image of version 1.
+//! What all exports that change an image have in common: the image in lent memory is opened for one call of `Image` or one run, without a
+//! check and without reading its types, which C keeps.
+//! A call of `Image` keeps the image's version. Only images of version 2 have shared types, so no call makes a frozen object in an image of
+//! version 1.
 
-ghost use Rattle.std.specs.Prelude.{◌≡◌, ◌<◌, ◌≤◌, Some, IfOk, IfErr, OnErr};
+ghost use Rattle.std.specs.Prelude.{◌≡◌, ◌<◌, ◌≤◌, Some, None, IfOk, IfErr, OnErr};
 ghost use Rattle.lezgauri.specs.Images.{segment_of, bytes_in};
 ghost use Rattle.lezgauri_c.specs.Changes.{TellsDone, TellsFound, IsOpenedOn};
 ghost use Rattle.lezgauri_c.specs.KeptImages.{table_kept};
@@ -44,6 +45,7 @@ pub(crate) fn open_image(
 ) -> Result<Box<KeptImage>, u32>
     ensures opened { IfOk result (λ opened. IsOpenedOn image.old types.old opened.value) }
     ensures status { IfErr result (IsUnopened image.old.bytes types.old) }
+    ensures none { IfErr result (λ status. table_in types.old ≡ None → status ≡ 100) }
     ensures unsound { OnErr result (OnSound image.old.bytes types.old (λ _. ⊥)) }
     ensures kept { OnErr result (image.new.bytes ≡ image.old.bytes) }
     ensures kept_home { OnErr result (memory_of image.new ≡ memory_of image.old) }

@@ -1,99 +1,127 @@
 ghost use Rattle.std.specs.Prelude.{◌≡◌, ◌<◌, ◌↔◌, true, false, Ok, [], ◌∷◌, length, IfOk, IfErr, OnErr, ℕ};
-ghost use Rattle.seg_spec.specs.Bytes.{word};
-ghost use Rattle.seg_spec.specs.Header.{allocator_word, max_length};
+ghost use Rattle.seg_spec.specs.Header.{max_length};
 ghost use Rattle.seg_spec.specs.Types.{Table};
-ghost use Rattle.seg_spec.specs.Images.{IsSound, upgraded};
+ghost use Rattle.seg_spec.specs.Images.{upgraded};
 ghost use Rattle.seg_spec.specs.Window.{region_of, with_bytes};
 ghost use Rattle.lezgauri.specs.Faults.{IsImageOf, IsFaultOf};
 ghost use Rattle.lezgauri.specs.ClientFiles.{OfTree};
-ghost use Rattle.client_vm.specs.ReadyClients.{client_in};
 ghost use Rattle.lezgauri.specs.Ended.{Ended};
-ghost use Rattle.client_vm.specs.Admitted.{IsWrong};
-ghost use Rattle.client_vm.specs.Outcomes.{HasOutcome};
+ghost use Rattle.lezgauri.specs.Images.{segment_of, allocator_of, bytes_in, types_of};
+ghost use Rattle.lezgauri.specs.Texts.{AreWrong};
+ghost use Rattle.client_vm.specs.ReadyClients.{client_in};
 ghost use Rattle.client_vm.specs.Reports.{IsReportOf};
-ghost use Rattle.lezgauri_c.specs.Calls.{whole_job, effect_of_one};
-ghost use Rattle.lezgauri_c.specs.Prepared.{client_bytes_of, ReadyRan};
+ghost use Rattle.client_vm.specs.Together.{opened};
+ghost use Rattle.lezgauri_c.specs.Calls.{effect_of_one};
+ghost use Rattle.lezgauri_c.specs.Prepared.{client_bytes_of};
+ghost use Rattle.lezgauri_c.specs.Runs.{IsSoundSegment, HasRunOnSegment, ReadyRan};
 ghost use Rattle.seg_raw.specs.Homes.{home_of};
 
 use crate::accepting::ready;
 use client_vm::{MAX_LEN, Ready, Refused, Report as Told, Sink, Window, header, run};
-use lezgauri::{BestFit, Fit, Segment, SeqFit, TypeTable, read_types};
+use lezgauri::{Fit, Image, Segment, TypeTable, read_types};
 use seg_raw::{Fault as Reason, Region};
 use std::alloc::{Allocator, Global};
 
-/// Verifies a client and runs it on an image in place. If it is refused, nothing is written, and the image is returned unchanged.
+/// Verifies a client and runs it on an open image in place. If it is refused, nothing changes.
 pub(crate) fn verify_and_run<A: Allocator, W: Sink>(
     alloc: Global,
-    image: Vec<u8, A>,
+    image: &mut Image<A>,
     client: &[u8],
     input: &[u8],
     sink: &mut W,
-) -> (Result<Told, Refused>, Vec<u8, A>)
+) -> Result<Told, Refused>
     requires works { W.has_failed sink.old ≡ false }
-    ensures within { IfOk result.0 (IsReportOf client.now) }
-    ensures outcome { IfOk result.0 (λ told. IsSound image.items → HasOutcome
-        (whole_job image.items (client.now ∷ []) input.now)
-        (effect_of_one (W.taken sink.old) (W.taken sink.new) result.1.items told)) }
-    ensures ended { IfOk result.0
+    ensures within { IfOk result (IsReportOf client.now) }
+    ensures runs { IfOk result (λ told.
+        IsSoundSegment (allocator_of image.old) (segment_of image.old) →
+        HasRunOnSegment (allocator_of image.old) client.now input.now
+        (segment_of image.old) (segment_of image.new)
+        (effect_of_one (W.taken sink.old) (W.taken sink.new) (bytes_in image.new) told)) }
+    ensures ended { IfOk result
         (λ told. (told.ended ≡ Ended.OutputFailed) ↔ (W.has_failed sink.new ≡ true)) }
-    ensures refused { IfErr result.0 (λ refused. IsSound image.items →
-        IsWrong image.items (client.now ∷ []) refused) }
-    ensures kept { OnErr result.0 (result.1.items ≡ image.items) }
-    ensures unwritten { OnErr result.0 (sink.new ≡ sink.old) }
-    ensures home { home_of result.1 ≡ home_of image }
+    ensures refused { IfErr result (AreWrong (types_of image.old) (client.now ∷ [])) }
+    ensures unchanged { OnErr result ((image.new ≡ image.old) × (sink.new ≡ sink.old)) }
+    ensures home { (segment_of image.new).window.home ≡ (segment_of image.old).window.home }
 {
-    let (window, types) = match open_window(image) {
-        Ok(it) => it,
-        Err((fault, image)) => return (Err(Refused::from(fault)), image),
-    };
-    match ready(alloc, client, &types) {
-        Ok(client) => {
-            let (told, image) = run_ready(window, types, &client, input, sink);
-            (Ok(told), image)
-        }
-        Err(refused) => (Err(refused), window.into_bytes()),
-    }
+    let client = ready(alloc, client, image.types())?;
+    Ok(run_ready(image, &client, input, sink))
 }
 
-/// Runs a prepared client on an image in place. If its types and the image's differ, nothing is written, and the image is
-/// returned unchanged.
+/// Runs a prepared client on an open image in place. If its types and the image's differ, nothing changes.
 pub(crate) fn run_again<A: Allocator, W: Sink>(
-    image: Vec<u8, A>,
+    image: &mut Image<A>,
     client: &Ready<Global>,
     input: &[u8],
     sink: &mut W,
-) -> (Result<Told, Refused>, Vec<u8, A>)
+) -> Result<Told, Refused>
     requires works { W.has_failed sink.old ≡ false }
-    ensures within { IfOk result.0 (IsReportOf (client_bytes_of client.now)) }
-    ensures outcome { OfTree (client_in client.now) (λ _. IfOk result.0 (λ told.
-        IsSound image.items → HasOutcome
-        (whole_job image.items (client_bytes_of client.now ∷ []) input.now)
-        (effect_of_one (W.taken sink.old) (W.taken sink.new) result.1.items told))) }
-    ensures refused { OfTree (client_in client.now) (λ _. IfErr result.0 (λ refused.
-        IsSound image.items → IsWrong image.items (client_bytes_of client.now ∷ []) refused)) }
-    ensures mismatch { IfErr result.0 (λ refused. IsSound image.items →
-        (k : ℕ) × (refused.fault ≡ Reason.TypeMismatch k)) }
-    ensures kept { OnErr result.0 (result.1.items ≡ image.items) }
-    ensures unwritten { OnErr result.0 (sink.new ≡ sink.old) }
-    ensures home { home_of result.1 ≡ home_of image }
+    ensures within { IfOk result (IsReportOf (client_bytes_of client.now)) }
+    ensures runs { OfTree (client_in client.now) (λ _. IfOk result (λ told.
+        IsSoundSegment (allocator_of image.old) (segment_of image.old) →
+        HasRunOnSegment (allocator_of image.old) (client_bytes_of client.now) input.now
+        (segment_of image.old) (segment_of image.new)
+        (effect_of_one (W.taken sink.old) (W.taken sink.new) (bytes_in image.new) told))) }
+    ensures refused { OfTree (client_in client.now)
+        (λ _. IfErr result (AreWrong (types_of image.old) (client_bytes_of client.now ∷ []))) }
+    ensures mismatch { IfErr result
+        (λ refused. (k : ℕ) × (refused.fault ≡ Reason.TypeMismatch k)) }
+    ensures unchanged { OnErr result ((image.new ≡ image.old) × (sink.new ≡ sink.old)) }
+    ensures home { (segment_of image.new).window.home ≡ (segment_of image.old).window.home }
 {
-    let (window, types) = match open_window(image) {
-        Ok(it) => it,
-        Err((fault, image)) => return (Err(Refused::from(fault)), image),
-    };
-    match types.agrees(client.verified().types()) {
-        Ok(()) => {
-            let (told, image) = run_ready(window, types, client, input, sink);
-            (Ok(told), image)
-        }
-        Err(fault) => {
-            let refused = Refused {
-                client: Some(0),
-                fault,
-            };
-            (Err(refused), window.into_bytes())
-        }
+    match image.types().agrees(client.verified().types()) {
+        Ok(()) => Ok(run_ready(image, client, input, sink)),
+        Err(fault) => Err(Refused {
+            client: Some(0),
+            fault,
+        }),
     }
+}
+
+/// Runs a client on an open image whose types agree with the client's.
+fn run_ready<A: Allocator, W: Sink>(
+    image: &mut Image<A>,
+    client: &Ready<Global>,
+    input: &[u8],
+    sink: &mut W,
+) -> Told
+    requires works { W.has_failed sink.old ≡ false }
+    ensures within { IsReportOf (client_bytes_of client.now) result }
+    ensures runs { ReadyRan (allocator_of image.old) client.now input.now
+        (segment_of image.old) (segment_of image.new)
+        (effect_of_one (W.taken sink.old) (W.taken sink.new) (bytes_in image.new) result) }
+    ensures ended { (result.ended ≡ Ended.OutputFailed) ↔ (W.has_failed sink.new ≡ true) }
+    ensures home { (segment_of image.new).window.home ≡ (segment_of image.old).window.home }
+{
+    match image {
+        Image::Seq(segment) => run_on(segment, client, input, sink),
+        Image::Best(segment) => run_on(segment, client, input, sink),
+    }
+}
+
+/// Runs a client on a segment.
+fn run_on<F: Fit, A: Allocator, W: Sink>(
+    segment: &mut Segment<F, A>,
+    client: &Ready<Global>,
+    input: &[u8],
+    sink: &mut W,
+) -> Told
+    requires works { W.has_failed sink.old ≡ false }
+    ensures within { IsReportOf (client_bytes_of client.now) result }
+    ensures runs { ReadyRan F.allocator client.now input.now segment.old segment.new
+        (effect_of_one (W.taken sink.old) (W.taken sink.new) segment.new.window.bytes result) }
+    ensures ended { (result.ended ≡ Ended.OutputFailed) ↔ (W.has_failed sink.new ≡ true) }
+    ensures home { segment.new.window.home ≡ segment.old.window.home }
+{
+    upgrade_segment(segment);
+    run(segment, client, input, &[], sink)
+}
+
+/// Makes the image in a segment one of the version that may have frozen objects.
+fn upgrade_segment<F: Fit, A: Allocator>(segment: &mut Segment<F, A>)
+    ensures window { segment.new.window ≡ opened segment.old.window }
+    ensures types { segment.new.types ≡ segment.old.types }
+{
+    upgrade(segment.heap_mut().window_mut());
 }
 
 /// A window on an image, in the image's own memory, and the image's types. Bytes that aren't an image are returned with a fault.
@@ -143,50 +171,6 @@ pub(crate) fn types_of<A: Allocator>(window: &Window<A>) -> Result<TypeTable, Re
     ensures { (table : Table) → IsImageOf window.now.bytes table → result ≡ Ok table }
 {
     read_types(window.view())
-}
-
-/// Runs a client on the segment in a window, with the image's allocator, and returns the image's memory.
-pub(crate) fn run_ready<A: Allocator, W: Sink>(
-    window: Window<A>,
-    types: TypeTable,
-    client: &Ready<Global>,
-    input: &[u8],
-    sink: &mut W,
-) -> (Told, Vec<u8, A>)
-    requires works { W.has_failed sink.old ≡ false }
-    ensures within { IsReportOf (client_bytes_of client.now) result.0 }
-    ensures runs { IsImageOf window.bytes types → ReadyRan client.now types input.now window
-        (effect_of_one (W.taken sink.old) (W.taken sink.new) result.1.items result.0) }
-    ensures ended { (result.0.ended ≡ Ended.OutputFailed) ↔ (W.has_failed sink.new ≡ true) }
-    ensures home { home_of result.1 ≡ window.home }
-{
-    if window.get32(header::ALLOCATOR) == BestFit::word() {
-        run_on::<BestFit, A, W>(window, types, client, input, sink)
-    } else {
-        run_on::<SeqFit, A, W>(window, types, client, input, sink)
-    }
-}
-
-/// Runs a client on the segment in a window.
-fn run_on<F: Fit, A: Allocator, W: Sink>(
-    mut window: Window<A>,
-    types: TypeTable,
-    client: &Ready<Global>,
-    input: &[u8],
-    sink: &mut W,
-) -> (Told, Vec<u8, A>)
-    requires works { W.has_failed sink.old ≡ false }
-    ensures within { IsReportOf (client_bytes_of client.now) result.0 }
-    ensures runs { IsImageOf window.bytes types → word window.bytes allocator_word ≡ F.allocator →
-        ReadyRan client.now types input.now window
-        (effect_of_one (W.taken sink.old) (W.taken sink.new) result.1.items result.0) }
-    ensures ended { (result.0.ended ≡ Ended.OutputFailed) ↔ (W.has_failed sink.new ≡ true) }
-    ensures home { home_of result.1 ≡ window.home }
-{
-    upgrade(&mut window);
-    let mut segment: Segment<F, A> = Segment::new(window, types);
-    let told = run(&mut segment, client, input, &[], sink);
-    (told, segment.into_window().into_bytes())
 }
 
 /// Makes an image one of the version that may have frozen objects. Writes nothing to an image of that version, so that a run that

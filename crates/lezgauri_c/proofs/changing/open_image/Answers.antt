@@ -1,7 +1,7 @@
-use Rattle.std.proofs.Common.{◌≡◌, ◌≤◌, Some, List, ℕ, sym, ap, ◌∙◌, subst}
+use Rattle.std.proofs.Common.{◌≡◌, ◌≤◌, Some, List, ℕ, length, sym, ap, ◌∙◌, subst}
 use Rattle.seg_spec.specs.Bytes.{word}
 use Rattle.seg_spec.specs.Header.{allocator_word}
-use Rattle.seg_spec.specs.Window.{Placement}
+use Rattle.seg_spec.specs.Window.{Placement, region_of}
 use Rattle.seg_spec.specs.Sound.{HasHeader}
 use Rattle.lezgauri.specs.Images.{bytes_in, types_of}
 use Rattle.lezgauri_c.specs.KeptImages.{table_kept}
@@ -18,6 +18,8 @@ returns-in-Ok-clause-opened c =
     let kept : table_in c.args.types.now ≡ Some (types_of image) = c.in-Some.ensures.types ∙ ap Some (sym types) in
     record {
       bytes = here;
+      region = ap region_of c.enter.ensures.window ∙ c.in-Ok.ensures.region ∙ c.take-bytes.ensures.bytes;
+      base = ap (λ (w : Placement). length w.before) c.enter.ensures.window ∙ c.in-Ok.ensures.base;
       home = ap (λ (w : Placement). w.home) c.enter.ensures.window ∙ c.in-Ok.ensures.home ∙ c.take-bytes.ensures.home;
       types_are = kept;
       opened = λ sound same.
