@@ -216,36 +216,34 @@ static bool overlap(span a, span b)
     return a.len > 0 && b.len > 0 && (start < other ? other - start < a.len : start - other < b.len);
 }
 
-/* Whether a span overlaps no span of a call. `itself` is its own index there. */
-static bool is_apart(span part, memory of, size_t itself)
+/* Whether a span overlaps none of `count` others. */
+static bool is_apart_from(span part, const span *others, size_t count)
 {
-    for (size_t i = 0; i < of.count; i++) {
-        if (i != itself && overlap(part, of.spans[i])) {
+    for (size_t i = 0; part.len > 0 && i < count; i++) {
+        if (overlap(part, others[i])) {
             return false;
         }
     }
     return true;
 }
 
-/* Whether each span that a call writes to overlaps no other span. Each pair is compared once, because a span before a written one is
- * written too. */
+/* Whether span `i` of a call overlaps no other span of the call. */
+static bool is_apart(memory of, size_t i)
+{
+    span part = of.spans[i];
+    return is_apart_from(part, of.spans, i) && is_apart_from(part, of.spans + i + 1, of.count - i - 1);
+}
+
+/* Whether each span that a call writes to overlaps no other span. Each span is compared with the written ones before it, and so each pair
+ * once. */
 static bool are_apart(memory of)
 {
-    for (size_t i = 0; i < of.written; i++) {
-        span part = of.spans[i];
-        for (size_t j = i + 1; part.len > 0 && j < of.count; j++) {
-            if (overlap(part, of.spans[j])) {
-                return false;
-            }
+    for (size_t i = 1; i < of.count; i++) {
+        if (!is_apart_from(of.spans[i], of.spans, i < of.written ? i : of.written)) {
+            return false;
         }
     }
     return true;
-}
-
-/* Whether the spans that a call writes to don't overlap another span, which it reads. */
-static bool are_apart_from(memory of, span read)
-{
-    return is_apart(read, (memory){of.spans, of.written, 0}, SIZE_MAX);
 }
 
 /* ---- refusals */
@@ -254,7 +252,7 @@ static bool are_apart_from(memory of, span read)
  * call. Span 0 of the call is the fault. */
 static uint32_t refuse(uint32_t number, lezgauri_fault *fault, memory of)
 {
-    if (fault != NULL && may_tell(fault, _Alignof(lezgauri_fault)) && is_apart(of.spans[0], of, 0)) {
+    if (fault != NULL && may_tell(fault, _Alignof(lezgauri_fault)) && is_apart(of, 0)) {
         *fault = (lezgauri_fault){.client = LEZGAURI_NO_CLIENT, .number = number};
     }
     return number;
@@ -318,7 +316,7 @@ static bool may_read_clients(const lezgauri_bytes *clients, size_t count, memory
 {
     for (size_t i = 0; i < count; i++) {
         span client = {clients[i].bytes, clients[i].len};
-        if (client.at == NULL || !may_be_bytes(client.at, client.len) || !are_apart_from(of, client)) {
+        if (client.at == NULL || !may_be_bytes(client.at, client.len) || !is_apart_from(client, of.spans, of.written)) {
             return false;
         }
     }
@@ -534,7 +532,7 @@ uint32_t lezgauri_open(const void *image, size_t len, lezgauri_handle **handle, 
     span spans[] = {one(fault, sizeof *fault), one(handle, sizeof *handle), image_at(image, len)};
     memory of = MEMORY(spans, 2);
     bool is_handle = handle != NULL && may_tell(handle, _Alignof(lezgauri_handle *));
-    if (is_handle && is_apart(spans[1], of, 1)) {
+    if (is_handle && is_apart(of, 1)) {
         *handle = NULL;
     }
     if (!is_handle || !may_be_bytes(image, len) || !may_tell(fault, _Alignof(lezgauri_fault))) {
@@ -565,7 +563,7 @@ static uint32_t open_lent(void *memory_lent, size_t len, size_t room, memory_kin
     span spans[] = {one(fault, sizeof *fault), one(handle, sizeof *handle), one(memory_lent, room)};
     memory of = MEMORY(spans, 3);
     bool is_handle = handle != NULL && may_tell(handle, _Alignof(lezgauri_handle *));
-    if (is_handle && is_apart(spans[1], of, 1)) {
+    if (is_handle && is_apart(of, 1)) {
         *handle = NULL;
     }
     if (!is_handle || !may_be_bytes(memory_lent, room) || room < len || !may_tell(fault, _Alignof(lezgauri_fault))) {
@@ -798,7 +796,7 @@ uint32_t lezgauri_prepare(const lezgauri_handle *handle, const void *client, siz
                     one(client, client_len)};
     memory of = MEMORY(spans, 4);
     bool is_place = prepared != NULL && may_tell(prepared, _Alignof(lezgauri_client *));
-    if (is_place && is_apart(spans[1], of, 1)) {
+    if (is_place && is_apart(of, 1)) {
         *prepared = NULL;
     }
     if (handle == NULL || !is_place || !may_be_bytes(client, client_len) || !may_tell(fault, _Alignof(lezgauri_fault)) ||
