@@ -1,14 +1,16 @@
 /*
  * The target `memory`: calls that take memory from malloc, each with every one of its requests refused in turn. A call
  * whose request is refused returns LEZGAURI_MEMORY, leaves the segment, the caller's memory and the output unchanged,
- * and frees what it took; or it doesn't need the memory, and does what it does otherwise.
+ * and frees what it took, except that the segment may keep its types until it is closed; or it doesn't need the memory,
+ * and does what it does otherwise.
  */
 #include "fuzz.h"
 
 #include <stdlib.h>
 #include <string.h>
 
-enum { SIZE = 1 << 13, MOST_OUTPUT = 1 << 14, MOST_REQUESTS = 10000 };
+/* TYPES: the blocks of memory of a segment's types. */
+enum { TYPES = 1, SIZE = 1 << 13, MOST_OUTPUT = 1 << 14, MOST_REQUESTS = 10000 };
 
 enum operation {
     CHECK,
@@ -129,6 +131,7 @@ static void refuse_each(work *of, enum operation operation)
     bool is_reached = true;
     for (unsigned request = 1; is_reached; request++) {
         NEED(request < MOST_REQUESTS, "too many requests");
+        long closed = live_blocks();
         prepare(of);
         long taken = live_blocks();
         refuse_request(request);
@@ -141,13 +144,15 @@ static void refuse_each(work *of, enum operation operation)
             NEED(is_reached, "call %d: out of host memory, and no request was refused", operation);
             NEED(hash_all(of) == before, "call %d: out of host memory at request %u, and something has changed",
                  operation, request);
-            NEED(live_blocks() == taken, "call %d: request %u refused, and memory is lost", operation, request);
+            long kept = live_blocks() - taken;
+            NEED(kept == 0 || kept == TYPES, "call %d: request %u refused, and memory is lost", operation, request);
         } else {
             NEED(status == wanted, "call %d: status %u with request %u refused, and %u otherwise", operation, status,
                  request, wanted);
             NEED(hash_all(of) == after, "call %d: another result with request %u refused", operation, request);
         }
         lezgauri_close(of->segment);
+        NEED(live_blocks() == closed, "call %d: request %u refused, and the closed segment has memory", operation, request);
     }
 }
 
