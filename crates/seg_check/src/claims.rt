@@ -416,8 +416,8 @@ fn below(bytes: View, pointer: u32) -> u32 {
     }
 }
 
-/// Words of the block's header and of the key of the node that a pointer points to, which may lie in two lines of the
-/// processor's cache.
+/// Words of the node that a pointer points to: of its block's header, and of what follows its tree fields. They may lie in
+/// two lines of the processor's cache.
 #[inline(always)]
 fn ends_of(bytes: View, pointer: u32) -> u32 {
     let node = bytes.get32(pointer as usize).wrapping_add(pointer);
