@@ -3,6 +3,7 @@ pub mod BufferLaws
 pub mod StructLaws
 pub mod SharedCellLaws
 pub mod AscendingKeyLaws
+pub mod EntryKeyLaws
 pub mod FlatMapLaws
 pub mod NodeLaws
 pub mod ListLaws

@@ -1,16 +1,19 @@
-ghost use Rattle.std.specs.Prelude.{◌≡◌, ℕ, ◌-◌, ◌≤◌, ◌∷◌, []};
+ghost use Rattle.std.specs.Prelude.{◌≡◌, ℕ, ◌+◌, ◌*◌, ◌-◌, ◌≤◌, ◌∷◌, [], length};
 ghost use Rattle.seg_spec.specs.Bytes.{signed_long};
 ghost use Rattle.seg_spec.specs.Types.{Form};
+ghost use Rattle.seg_spec.specs.Reads.{keys_at, spaced};
 ghost use Rattle.seg_cells.specs.Places.{object_at};
 ghost use Rattle.seg_check.specs.Turns.{LiesAt};
 ghost use Rattle.seg_check.specs.Resolving.{IsReady, Steps};
 ghost use Rattle.seg_check.specs.Cells.{CellsPointTo};
+ghost use Rattle.seg_check.specs.Keys.{HasKeys};
 
 use crate::claims::Claims;
 use crate::fault::ContentFault;
 use crate::image::TypedImage;
 use crate::walk::{Tree, Visit};
-use seg_cells::{CellAt, Content, KEY, ValueAt};
+use seg_block::PayloadAt;
+use seg_cells::{CellAt, Content, Entry, KEY, ValueAt};
 use seg_ptr::View;
 use std::alloc::Allocator;
 
@@ -34,12 +37,22 @@ impl TypedImage<'_> {
             return Ok(());
         };
         let start = self.claim_entries(claims, cell, content, count)?;
-        let (bytes, entry) = (self.bytes, content.entry);
+        self.entry_keys(content.entry, start, count).check(cell)
+    }
+
+    /// The keys of the entries of a flat map, each of which begins with its key.
+    fn entry_keys(&self, entry: Entry, start: PayloadAt, count: u32) -> Keys
+        ensures { 8 ≤ entry.size →
+            start + count * entry.size ≤ length self.now.bytes.bytes.now →
+            HasKeys result (keys_at self.now.bytes.bytes.now (spaced start entry.size count)) }
+    {
+        let size = entry.size as usize;
+        let entries = self.bytes.slice(start as usize, count as usize * size);
         let mut keys = Keys::new();
-        for index in 0..count {
-            keys.add(key(bytes, entry.value_at(start, index)));
+        for bytes in entries.chunks_exact(size) {
+            keys.add(View::new(bytes).get64(0).cast_signed());
         }
-        keys.check(cell)
+        keys
     }
 
     /// Checks a map: claims its nodes, and then checks the tree and the order of its keys.

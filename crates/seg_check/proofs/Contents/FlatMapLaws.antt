@@ -5,7 +5,7 @@ use Rattle.seg_spec.specs.Types.{Form, Table, size}
 use Rattle.seg_spec.specs.Block.{Kind, tag_of, block_of}
 use Rattle.seg_spec.specs.Owing.{entries_at}
 use Rattle.seg_spec.specs.Value.{IsAscending, Label}
-use Rattle.seg_spec.specs.Reads.{Place, Opened, named, start, count_at, keys_at, spaced, places_of}
+use Rattle.seg_spec.specs.Reads.{Opened, named, start, count_at, keys_at, spaced, places_of}
 use Rattle.seg_spec.specs.Sound.{times}
 use Rattle.seg_spec.proofs.Heap.LiveBlockLaws.{times-same}
 use Rattle.seg_block.specs.Tags.{word_of}
@@ -23,21 +23,18 @@ use Rattle.seg_check.specs.Resolving.{CanResolve, Advances, IsReady, Steps}
 use Rattle.seg_check.specs.Cells.{CellsPointTo, counted_by}
 use Rattle.seg_check.proofs.Queue.QueueStepLaws.{can_open}
 use Rattle.seg_check.proofs.Heap.TagLaws.{places_tagged}
-use Rattle.seg_check.proofs.Blocks.CellClaimLaws.{named_none, start_some, names_room, no_room, none_counted, can_claim, advance_block, advance_nothing, entries_low}
+use Rattle.seg_check.proofs.Blocks.CellClaimLaws.{named_none, start_some, names_room, no_room, none_counted, can_claim, advance_block, advance_nothing}
 use Rattle.seg_check.proofs.Contents.BufferLaws.{counted_lacks, counted_refused, content_claimed, content_can, block_is, named_within}
-use Rattle.seg_check.proofs.Queue.PlaceLoopLaws.{each_get}
-use Rattle.seg_check.proofs.Queue.EntryLoopLaws.{entry_get}
 
 -- a claimed block ends in the segment
-pub claimed_room : (bytes : List ℕ) (table : Table) (old new : Known) (at tag size p : ℕ) (turns : List Turn) → IsReady bytes table old → ClaimsBlock bytes old new at tag size turns p → p + size ≤ 2 ^ 30
-claimed_room bytes table old new at tag size p turns ready c =
+claimed_inside : (bytes : List ℕ) (table : Table) (old new : Known) (at tag size p : ℕ) (turns : List Turn) → IsReady bytes table old → ClaimsBlock bytes old new at tag size turns p → p + size ≤ length bytes
+claimed_inside bytes table old new at tag size p turns ready c =
     let some : 1 ≤ times (block_of p) old.unclaimed = omega (arith, c.claims.claimed (block_of p), times-same (block_of p) new.unclaimed) in
     let block = ready.blocks (block_of p) some in
     let large = block.0.size in
     let inside = block.0.inside in
     let high = c.is_block.after_header in
     let room = c.is_block.room in
-    let small = ready.small in
     omega arith
 
 module _ (bytes : List ℕ) (table : Table) (at T U : ℕ) (content : Content) (by : CellsPointTo table T (Form.flat_map U) content) where
@@ -109,13 +106,6 @@ module _ (bytes : List ℕ) (table : Table) (at T U : ℕ) (content : Content) (
       subst (λ g. Refutes g (CanResolve bytes table old (record { at = at; type = T } ∷ [])) × LacksAt bytes table g) (sym m.0)
       ((λ r. m.1 (flat_ascend old n p c.names n_is r)), in_cell T (Form.flat_map U) lies by.form_is (λ a. m.1 (subst IsAscending (sym (same_keys p n c.names n_is)) a)))
 
-  -- the position of the key of an entry
-  pub flat_key : (old new : Known) (n p i x : ℕ) → IsReady bytes table old → ClaimsBlock bytes old new at (word_of content.tag) (n * content.entry.size) (turns_where (has_turns table content.entry.held) p n) p
-      → i < n → x ≡ (p + i * content.entry.size + content.entry.before) % 2 ^ 32 → (8 ≤ x) × (x - 8 ≡ p + i * (8 + size table U))
-  flat_key old new n p i x ready c l x_is =
-      let d = content_claimed bytes table old new at n p _ (tag_of Kind.buffer T) 8 U content by.content_of c in
-      let room = claimed_room bytes table old new at (tag_of Kind.buffer T) (n * (8 + size table U)) p _ ready d in
-      let low = each_get (λ (place : Place). place.at ≤ 2 ^ 30) (entries_at table p 8 U n) i _ (entries_low table p 8 U n room) (entry_get table p 8 U n i l) in
-      let sizes = ap (λ m. i * m) by.content_of.entry_is.size_is in
-      let before = by.content_of.entry_is.before_is in
-      (omega arith, omega arith)
+  pub flat_inside : (old new : Known) (n p : ℕ) → IsReady bytes table old → ClaimsBlock bytes old new at (word_of content.tag) (n * content.entry.size) (turns_where (has_turns table content.entry.held) p n) p
+      → p + n * content.entry.size ≤ length bytes
+  flat_inside old new n p ready c = claimed_inside bytes table old new at (word_of content.tag) (n * content.entry.size) p _ ready c

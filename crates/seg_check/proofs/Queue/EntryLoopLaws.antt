@@ -12,7 +12,7 @@ use Rattle.seg_check.specs.declared.marks.Turn.{Turn}
 use Rattle.seg_check.specs.Turns.{AreLow, IsTurn, IsEntryFor, HasEntries, entries_by, places_in}
 use Rattle.seg_check.proofs.Queue.PlaceLoopLaws.{each_get}
 
-pub entry_get : (table : Table) (start before U n i : ℕ) → i < n → slice_get (entries_at table start before U n) i ≡ Some (record { at = start + i * (before + size table U) + before; type = U })
+entry_get : (table : Table) (start before U n i : ℕ) → i < n → slice_get (entries_at table start before U n) i ≡ Some (record { at = start + i * (before + size table U) + before; type = U })
 entry_get table start before U zero i l = absurd (omega arith)
 entry_get table start before U (suc n) zero l = let here : start + before ≡ start + 0 * (before + size table U) + before = omega arith in ap (λ p. Some (record { at = p; type = U })) here
 entry_get table start before U (suc n) (suc i) l =

@@ -1,7 +1,5 @@
-use Rattle.std.proofs.Common.{◌≡◌, ◌+◌, ◌++◌, ◌∷◌, [], Ok, Err, sym, ap, ◌∙◌, subst, arith, ℤ, w64}
-use Rattle.std.proofs.lemmas.Int.{to_z-of_z}
+use Rattle.std.proofs.Common.{◌≡◌, ◌+◌, ◌∷◌, [], Ok, Err, sym, ap, ◌∙◌, subst, arith}
 use Rattle.std.proofs.lemmas.Result.{err_from_is_err_and}
-use Rattle.seg_spec.specs.Bytes.{signed_long}
 use Rattle.seg_spec.specs.Pointer.{target}
 use Rattle.seg_spec.specs.Types.{size}
 use Rattle.seg_spec.specs.Reads.{count_at, keys_at, spaced}
@@ -12,8 +10,7 @@ use Rattle.seg_check.proofs.Queue.QueueStepLaws.{steps_refused}
 use Rattle.seg_check.proofs.Blocks.CellClaimLaws.{ready_live}
 use Rattle.seg_check.proofs.Blocks.LackingBlockLaws.{ready_allocated}
 use Rattle.seg_check.proofs.Contents.BufferLaws.{counted_none, counted_some, counted_names}
-use Rattle.seg_check.proofs.Contents.AscendingKeyLaws.{keys_more}
-use Rattle.seg_check.proofs.Contents.FlatMapLaws.{flat_nothing, flat_counted, flat_can, flat_steps, flat_key, flat_counted_lack, flat_lacks}
+use Rattle.seg_check.proofs.Contents.FlatMapLaws.{flat_nothing, flat_counted, flat_can, flat_steps, flat_inside, flat_counted_lack, flat_lacks}
 use Rattle.seg_check.proofs.image.TypedImage.check_flat_map.Goals as goal
 
 pub returns-in_err-count-clause-steps : goal.returns-in_err-count-clause-steps
@@ -52,21 +49,6 @@ returns-in_err-start-clause-steps g c = λ T U by ready lies.
     (c.in_err-start.ensures.refused (ready_live bytes table old ready))
     (flat_lacks bytes table at T U c.args.content.now by old c.in-Some.count e ready lies n_is (c.in_err-start.ensures.lacks (ready_allocated bytes table old ready)))
 
-pub loop-index-preserved : goal.loop-index-preserved
-loop-index-preserved g c = λ T U by ready.
-    let bytes = c.args.self.now.bytes.bytes.now in
-    let table = c.args.self.now.types.now in
-    let old = c.args.claims.now in
-    let i = c.loop-index.index in
-    let p = c.in_ok-start.start in
-    let step = 8 + size table U in
-    let at = flat_key bytes table c.args.cell T U c.args.content.now by old c.claim_entries.new.claims c.in-Some.count p i c.value_at.result ready (c.in_ok-start.ensures.claimed
-    (ready_live bytes table old ready)) c.loop-index-test.true c.value_at.ensures in
-    let same = to_z-of_z w64 c.key.result (record { sfits = c.key.type_inv }) in
-    let key = same ∙ c.key.ensures at.0 ∙ ap (signed_long bytes) at.1 in
-    let more = c.add.ensures (keys_at bytes (spaced p step i)) (c.loop-index.invariant T U by ready) in
-    subst (λ ks. HasKeys c.add.new.self ks) (sym (keys_more bytes p step i)) (subst (λ (k : ℤ). HasKeys c.add.new.self (keys_at bytes (spaced p step i) ++ k ∷ [])) key more)
-
 pub returns-clause-steps : goal.returns-clause-steps
 returns-clause-steps g c = λ T U by ready lies.
     let bytes = c.args.self.now.bytes.bytes.now in
@@ -76,8 +58,9 @@ returns-clause-steps g c = λ T U by ready lies.
     let p = c.in_ok-start.start in
     let counts = sym c.counted.ensures ∙ c.in_ok-count.was ∙ ap Ok c.in-Some.is in
     let n_is = counted_some at (count_at bytes at) c.in-Some.count (target bytes at) counts in
-    let all : c.loop-index.index ≡ c.in-Some.count = omega (arith, c.loop-index-test.false, c.loop-index.auto.index-end) in
-    let step = 8 + size table U in
-    let has = subst (λ n. HasKeys c.loop-index.keys (keys_at bytes (spaced p step n))) all (c.loop-index.invariant T U by ready) in
-    flat_steps bytes table at T U c.args.content.now by {A = Unit {0}} old c.claim_entries.new.claims c.in-Some.count p c.check.result ready lies n_is (c.in_ok-start.ensures.claimed (ready_live bytes table old ready))
-    (c.check.ensures (keys_at bytes (spaced p step c.in-Some.count)) has)
+    let claimed = c.in_ok-start.ensures.claimed (ready_live bytes table old ready) in
+    let each : c.args.content.now.entry.size ≡ 8 + size table U = by.content_of.entry_is.size_is in
+    let has = subst (λ step. HasKeys c.entry_keys.result (keys_at bytes (spaced p step c.in-Some.count))) each (c.entry_keys.ensures (omega (arith, each))
+    (flat_inside bytes table at T U c.args.content.now by old c.claim_entries.new.claims c.in-Some.count p ready claimed)) in
+    flat_steps bytes table at T U c.args.content.now by {A = Unit {0}} old c.claim_entries.new.claims c.in-Some.count p c.check.result ready lies n_is claimed
+    (c.check.ensures (keys_at bytes (spaced p (8 + size table U) c.in-Some.count)) has)
