@@ -1,7 +1,6 @@
 use seg_block::Fit;
 use seg_manager::{Heap, Place, Type, TypeId};
-use seg_map::{first_entry_by, next_entry_by};
-use seg_rbtree::Path;
+use seg_map::{KeyCursor, first_entry_by, next_entry_by};
 use seg_seq::{at, next};
 use std::alloc::Global;
 
@@ -81,7 +80,7 @@ impl Parts {
     pub(crate) fn next<F: Fit>(
         &mut self,
         heap: &Heap<F, Global>,
-        cursor: &mut Path,
+        cursor: &mut KeyCursor,
     ) -> Option<ValuePart> {
         self.left = self.left.checked_sub(1)?;
         let index = self.came;
@@ -127,7 +126,7 @@ impl Parts {
     fn entry<F: Fit>(
         &mut self,
         heap: &Heap<F, Global>,
-        cursor: &mut Path,
+        cursor: &mut KeyCursor,
         index: u32,
         t: TypeId,
     ) -> Option<ValuePart> {

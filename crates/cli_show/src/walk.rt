@@ -3,7 +3,7 @@ use crate::parts::{Parts, ValuePart};
 use cli_progress::{Pace, Watch, Work};
 use seg_block::Fit;
 use seg_manager::{Heap, MAX_TYPES, Place, Type};
-use seg_rbtree::Path;
+use seg_map::KeyCursor;
 use std::alloc::{AllocError, Global};
 
 /// All of a walk, of which a watch is told how much is done.
@@ -35,7 +35,7 @@ pub(crate) struct ValueWalk {
     /// The values on the path, the outermost first.
     open: Vec<Parts>,
     /// The path to the last key of a map.
-    cursor: Path,
+    cursor: KeyCursor,
     extent: Extent,
     /// What the walk is for.
     work: Work,
@@ -52,7 +52,7 @@ impl ValueWalk {
     pub(crate) fn new(alloc: Global, extent: Extent, work: Work, count: u64) -> ValueWalk {
         ValueWalk {
             open: Vec::new(alloc),
-            cursor: Path::new(0),
+            cursor: KeyCursor::new(),
             extent,
             work,
             count,

@@ -6,4 +6,4 @@ use Rattle.seg_rbtree.specs.Following.{LeadsInside}
 use Rattle.seg_manager.specs.declared.cursor.Cursor.{Cursor}
 
 abbrev pub IsCursorInside : List ℕ → Cursor → Type 0
-IsCursorInside bytes cursor = cursor.is_kept ≡ true → LeadsInside bytes cursor.way
+IsCursorInside bytes cursor = cursor.is_kept ≡ true → LeadsInside bytes cursor.key.path

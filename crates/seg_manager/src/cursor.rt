@@ -4,12 +4,12 @@ ghost use Rattle.std.specs.Prelude.{ℕ, List};
 ghost use Rattle.seg_rbtree.specs.Following.{LeadsInside};
 ghost use Rattle.seg_manager.specs.Cursors.{IsCursorInside};
 
-use seg_rbtree::Path;
+use seg_map::KeyCursor;
 
 /// A path in a map, which is only valid while it is kept.
 #[derive(Drop)]
 pub(crate) struct Cursor {
-    pub(crate) way: Path,
+    pub(crate) key: KeyCursor,
     is_kept: bool,
 }
 
@@ -18,7 +18,7 @@ impl Cursor {
         ensures { (bytes : List ℕ) → IsCursorInside bytes result }
     {
         Cursor {
-            way: Path::new(0),
+            key: KeyCursor::new(),
             is_kept: false,
         }
     }
@@ -34,10 +34,10 @@ impl Cursor {
     /// Keeps the path from here on: the present one, or the path to the root if it was dropped.
     pub(crate) fn keep(&mut self)
         ensures { (bytes : List ℕ) → IsCursorInside bytes self.old →
-            LeadsInside bytes self.new.way }
+            LeadsInside bytes self.new.key.path }
     {
         if !self.is_kept {
-            self.way.rewind();
+            self.key.rewind();
             self.is_kept = true;
         }
     }

@@ -25,7 +25,7 @@ impl<F: Fit, A: Allocator> Segment<F, A> {
             (λ U keys vs blocks. result_ok result ≡ first_of keys) }
     {
         self.cursor.keep();
-        first_key_by(&self.heap, &mut self.cursor.way, map)
+        first_key_by(&self.heap, &mut self.cursor.key, map)
     }
 
     /// The least key above another, which need not exist. `OtherType` if the place isn't a map, `Null` if no key is
@@ -40,6 +40,6 @@ impl<F: Fit, A: Allocator> Segment<F, A> {
             (λ U keys vs blocks. result_ok result ≡ first_of (keys_above keys after)) }
     {
         self.cursor.keep();
-        next_key_by(&self.heap, &mut self.cursor.way, map, after)
+        next_key_by(&self.heap, &mut self.cursor.key, map, after)
     }
 }

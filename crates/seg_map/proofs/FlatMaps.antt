@@ -4,7 +4,7 @@ use Rattle.std.specs.Prelude.{slice_get, IsErr}
 use Rattle.std.proofs.Math.Nat.{mul-le-mul_left, mul-le-mul_right}
 use Rattle.std.proofs.lemmas.Bool.{cases_lt, false≢true}
 use Rattle.std.proofs.lemmas.List.{length-take-le, take_all}
-use Rattle.std.proofs.lemmas.Option.{slice_get_past}
+use Rattle.std.proofs.lemmas.Option.{slice_get_past, slice_get_within}
 use Rattle.std.specs.Result.{result_ok}
 use Rattle.std.specs.Ordering.{int_cmp}
 use Rattle.std.specs.Cmp.{int_ranked}
@@ -293,15 +293,24 @@ module _ (allocator : ℕ) (bytes : List ℕ) (table : Table) (place : Place) (U
   pub read_none : (i count : ℕ) → count ≡ n → count ≤ i → FindsEntry bytes table place U (slice_get keys i) None
   read_none i count count_is h = record { key_is = sym (no_key i (omega arith)); leads = tt }
 
+  -- no index is too large for 32 bits
+  index_next : (i j : ℕ) → i < n → j ≡ min (i + 1) 4294967295 → j ≡ suc i
+  index_next i j below j_is =
+      let large : 8 ≤ each = omega arith in
+      let few = mul-le-mul_left i large in
+      omega (arith, entry_small i below)
+
   -- the first key above another, by the result of a search
   pub next_read : (key passed : ℤ) (i j : ℕ) (r : Result ℕ ℕ) → passed ≡ key → Searched passed r → r ≡ Ok i → j ≡ min (i + 1) 4294967295 → slice_get keys j ≡ first_of (keys_above keys key)
   next_read key passed i j r same h is j_is =
       let at = found_at key i r (subst (λ k. Searched k r) same h) (ap result_ok is) in
-      let below : i < n = subst (λ k. i < k) length_is (place_below keys key i at) in
-      let large : 8 ≤ each = omega arith in
-      let few = mul-le-mul_left i large in
-      let next : j ≡ suc i = omega (arith, entry_small i below) in
-      ap (slice_get keys) next ∙ sym (found_next keys key i (parted_found keys key i ascending at))
+      ap (slice_get keys) (index_next i j (subst (λ k. i < k) length_is (place_below keys key i at)) j_is) ∙ sym (found_next keys key i (parted_found keys key i ascending at))
+
+  -- the key after the one with an index
+  pub next_there : (key : ℤ) (i j : ℕ) → slice_get keys i ≡ Some key → j ≡ min (i + 1) 4294967295 → slice_get keys j ≡ first_of (keys_above keys key)
+  next_there key i j at j_is =
+      let below : i < n = subst (λ k. i < k) length_is (slice_get_within keys i key at) in
+      ap (slice_get keys) (index_next i j below j_is) ∙ sym (found_next keys key i (parted_at keys key i ascending at))
 
   pub next_read_missing : (key passed : ℤ) (i : ℕ) (r : Result ℕ ℕ) → passed ≡ key → Searched passed r → r ≡ Err i → slice_get keys i ≡ first_of (keys_above keys key)
   next_read_missing key passed i r same h is =

@@ -157,8 +157,21 @@ pub(crate) fn first_entry<S: SegmentRead>(
     entry_at(source, entry, cell, 0)
 }
 
-/// The least key above another, with the position of its value.
+/// The index of the least key above another, or of the end.
 #[inline(never)]
+fn index_above<S: SegmentRead>(source: &S, entry: Entry, cell: CellAt, after: i64) -> u32
+    ensures { WhereMap Form.flat_map (S.allocator source.now) (S.stored source.now).window.bytes
+        (S.stored source.now).types cell
+        (λ T U keys vs blocks. IsEntryOf (S.stored source.now).types 8 U entry →
+        slice_get keys result ≡ first_of (keys_above keys after)) }
+{
+    match search(source, entry, cell, after) {
+        Ok(index) => index.saturating_add(1),
+        Err(index) => index,
+    }
+}
+
+/// The least key above another, with the position of its value.
 pub(crate) fn next_entry<S: SegmentRead>(
     source: &S,
     entry: Entry,
@@ -171,11 +184,28 @@ pub(crate) fn next_entry<S: SegmentRead>(
         FindsEntry (S.stored source.now).window.bytes (S.stored source.now).types
         (object_at cell T) U (first_of (keys_above keys after)) result) }
 {
-    let index = match search(source, entry, cell, after) {
-        Ok(index) => index.saturating_add(1),
-        Err(index) => index,
+    entry_at(source, entry, cell, index_above(source, entry, cell, after))
+}
+
+/// Like [`next_entry`]. The index is left at the key. There is no search if the other key has the index before.
+pub(crate) fn next_entry_by<S: SegmentRead>(
+    source: &S,
+    entry: Entry,
+    index: &mut u32,
+    cell: CellAt,
+    after: i64,
+) -> Option<KeyValue>
+    ensures { WhereMap Form.flat_map (S.allocator source.now) (S.stored source.now).window.bytes
+        (S.stored source.now).types cell
+        (λ T U keys vs blocks. IsEntryOf (S.stored source.now).types 8 U entry →
+        FindsEntry (S.stored source.now).window.bytes (S.stored source.now).types
+        (object_at cell T) U (first_of (keys_above keys after)) result) }
+{
+    *index = match entry_at(source, entry, cell, *index) {
+        Some(last) if last.key == after => index.saturating_add(1),
+        _ => index_above(source, entry, cell, after),
     };
-    entry_at(source, entry, cell, index)
+    entry_at(source, entry, cell, *index)
 }
 
 /// The last entry before an index, if there is one.

@@ -3,11 +3,13 @@
 //! `OtherType`, or returns false.
 #![tactic(auto)]
 
+mod cursor;
 mod flat;
 mod key_value;
 mod map;
 mod tree;
 
+pub use cursor::KeyCursor;
 pub use key_value::KeyValue;
 pub use map::{
     first_entry, first_entry_by, first_key, first_key_by, get, last_entry, last_key, len,

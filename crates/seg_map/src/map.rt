@@ -11,10 +11,10 @@ ghost use Rattle.seg_rbtree.specs.Following.{LeadsInside};
 ghost use Rattle.seg_map.specs.EitherMap.{has_keys, IsMapOf, WhereMaps, key_asks, KeepsTreePaths, KeepsKeysBut};
 ghost use Rattle.seg_map.specs.Maps.{FindsValue, FindsEntry, PutsKey, RemovesKey, first_of, last_of, keys_above, lower_keys};
 
+use crate::cursor::KeyCursor;
 use crate::key_value::KeyValue;
 use crate::{flat, tree};
 use seg_raw::Code;
-use seg_rbtree::Path;
 use seg_value::{Content, Fit, Heap, KEY, Place, SegmentRead, Shape, ValueAt};
 use std::alloc::Allocator;
 
@@ -148,10 +148,10 @@ pub fn first_entry<S: SegmentRead>(source: &S, map: Place) -> Result<KeyValue, C
     .ok_or(Code::Null)
 }
 
-/// Like [`first_entry`]. In a tree map the cursor is left at the key.
+/// Like [`first_entry`]. The cursor is left at the key.
 pub fn first_entry_by<S: SegmentRead>(
     source: &S,
-    cursor: &mut Path,
+    cursor: &mut KeyCursor,
     map: Place,
 ) -> Result<KeyValue, Code>
     ensures other { has_keys (form_at (S.stored source.now).types map.type_id) ≡ false →
@@ -162,12 +162,17 @@ pub fn first_entry_by<S: SegmentRead>(
         (S.stored source.now).types (place_of map)
         (λ U keys vs blocks. FindsEntry (S.stored source.now).window.bytes
         (S.stored source.now).types (place_of map) U (first_of keys) (result_ok result)) }
-    ensures inside { LeadsInside (S.stored source.now).window.bytes cursor.old
-        → LeadsInside (S.stored source.now).window.bytes cursor.new }
+    ensures inside { LeadsInside (S.stored source.now).window.bytes cursor.old.path
+        → LeadsInside (S.stored source.now).window.bytes cursor.new.path }
 {
     match MapKind::of(source, map)? {
-        MapKind::Flat(content) => flat::first_entry(source, content.entry, map.at),
-        MapKind::Tree(content) => tree::first_entry_by(source, content.entry, cursor, map.at),
+        MapKind::Flat(content) => {
+            cursor.index = 0;
+            flat::first_entry(source, content.entry, map.at)
+        }
+        MapKind::Tree(content) => {
+            tree::first_entry_by(source, content.entry, &mut cursor.path, map.at)
+        }
     }
     .ok_or(Code::Null)
 }
@@ -186,8 +191,12 @@ pub fn first_key<S: SegmentRead>(source: &S, map: Place) -> Result<i64, Code>
     Ok(entry.key)
 }
 
-/// Like [`first_key`]. In a tree map the cursor is left at the key.
-pub fn first_key_by<S: SegmentRead>(source: &S, cursor: &mut Path, map: Place) -> Result<i64, Code>
+/// Like [`first_key`]. The cursor is left at the key.
+pub fn first_key_by<S: SegmentRead>(
+    source: &S,
+    cursor: &mut KeyCursor,
+    map: Place,
+) -> Result<i64, Code>
     ensures other { has_keys (form_at (S.stored source.now).types map.type_id) ≡ false →
         result ≡ Err Code.OtherType }
     ensures code { has_keys (form_at (S.stored source.now).types map.type_id) ≡ true →
@@ -195,8 +204,8 @@ pub fn first_key_by<S: SegmentRead>(source: &S, cursor: &mut Path, map: Place) -
     ensures first { WhereMaps (S.allocator source.now) (S.stored source.now).window.bytes
         (S.stored source.now).types (place_of map)
         (λ U keys vs blocks. result_ok result ≡ first_of keys) }
-    ensures inside { LeadsInside (S.stored source.now).window.bytes cursor.old
-        → LeadsInside (S.stored source.now).window.bytes cursor.new }
+    ensures inside { LeadsInside (S.stored source.now).window.bytes cursor.old.path
+        → LeadsInside (S.stored source.now).window.bytes cursor.new.path }
 {
     let entry = first_entry_by(source, cursor, map)?;
     Ok(entry.key)
@@ -222,10 +231,10 @@ pub fn next_entry<S: SegmentRead>(source: &S, map: Place, after: i64) -> Result<
     .ok_or(Code::Null)
 }
 
-/// Like [`next_entry`]. In a tree map the cursor is left at the key, so the following call is one step.
+/// Like [`next_entry`]. The cursor is left at the key, so the following call is one step.
 pub fn next_entry_by<S: SegmentRead>(
     source: &S,
-    cursor: &mut Path,
+    cursor: &mut KeyCursor,
     map: Place,
     after: i64,
 ) -> Result<KeyValue, Code>
@@ -233,18 +242,22 @@ pub fn next_entry_by<S: SegmentRead>(
         result ≡ Err Code.OtherType }
     ensures code { has_keys (form_at (S.stored source.now).types map.type_id) ≡ true →
         IsOkUnless result Code.Null }
-    ensures next { LeadsInside (S.stored source.now).window.bytes cursor.old
+    ensures next { LeadsInside (S.stored source.now).window.bytes cursor.old.path
         → WhereMaps (S.allocator source.now) (S.stored source.now).window.bytes
         (S.stored source.now).types (place_of map)
         (λ U keys vs blocks. FindsEntry (S.stored source.now).window.bytes
         (S.stored source.now).types (place_of map) U (first_of (keys_above keys after))
         (result_ok result)) }
-    ensures inside { LeadsInside (S.stored source.now).window.bytes cursor.old
-        → LeadsInside (S.stored source.now).window.bytes cursor.new }
+    ensures inside { LeadsInside (S.stored source.now).window.bytes cursor.old.path
+        → LeadsInside (S.stored source.now).window.bytes cursor.new.path }
 {
     match MapKind::of(source, map)? {
-        MapKind::Flat(content) => flat::next_entry(source, content.entry, map.at, after),
-        MapKind::Tree(content) => tree::next_entry_by(source, content.entry, cursor, map.at, after),
+        MapKind::Flat(content) => {
+            flat::next_entry_by(source, content.entry, &mut cursor.index, map.at, after)
+        }
+        MapKind::Tree(content) => {
+            tree::next_entry_by(source, content.entry, &mut cursor.path, map.at, after)
+        }
     }
     .ok_or(Code::Null)
 }
@@ -264,10 +277,10 @@ pub fn next_key<S: SegmentRead>(source: &S, map: Place, after: i64) -> Result<i6
     Ok(entry.key)
 }
 
-/// Like [`next_key`]. In a tree map the cursor is left at the key, so the following call is one step.
+/// Like [`next_key`]. The cursor is left at the key, so the following call is one step.
 pub fn next_key_by<S: SegmentRead>(
     source: &S,
-    cursor: &mut Path,
+    cursor: &mut KeyCursor,
     map: Place,
     after: i64,
 ) -> Result<i64, Code>
@@ -275,12 +288,12 @@ pub fn next_key_by<S: SegmentRead>(
         result ≡ Err Code.OtherType }
     ensures code { has_keys (form_at (S.stored source.now).types map.type_id) ≡ true →
         IsOkUnless result Code.Null }
-    ensures next { LeadsInside (S.stored source.now).window.bytes cursor.old
+    ensures next { LeadsInside (S.stored source.now).window.bytes cursor.old.path
         → WhereMaps (S.allocator source.now) (S.stored source.now).window.bytes
         (S.stored source.now).types (place_of map)
         (λ U keys vs blocks. result_ok result ≡ first_of (keys_above keys after)) }
-    ensures inside { LeadsInside (S.stored source.now).window.bytes cursor.old
-        → LeadsInside (S.stored source.now).window.bytes cursor.new }
+    ensures inside { LeadsInside (S.stored source.now).window.bytes cursor.old.path
+        → LeadsInside (S.stored source.now).window.bytes cursor.new.path }
 {
     let entry = next_entry_by(source, cursor, map, after)?;
     Ok(entry.key)

@@ -30,13 +30,13 @@ returns-clause-next g c =
       | in-Flat w ↦
           let a = as_flat table T (form_at table T) w.in-Flat.content U (subst (λ k. MapKindOf table T (form_at table T) (Ok k)) w.in-Flat.is c.in_ok-content.ensures) m in
           entry_by stored.window.bytes table (place_of c.args.map) U _ _ (ap (λ k. first_of (keys_above keys k)) (to_z-of_z w64 c.args.after c.ranges.after))
-          c.match-branch-2.ok_or w.next_entry.result w.ok_or-is c.ok_or.result code.Null
-          c.ok_or.ensures.value (w.next_entry.ensures T U keys vs blocks a.0 s a.1.entry_is)
+          c.match-branch-2.ok_or w.next_entry_by.result w.ok_or-is c.ok_or.result code.Null
+          c.ok_or.ensures.value (w.next_entry_by.ensures T U keys vs blocks a.0 s a.1.entry_is)
       | in-Tree w ↦
           let a = as_tree table T (form_at table T) w.in-Tree.content U (subst (λ k. MapKindOf table T (form_at table T) (Ok k)) w.in-Tree.is c.in_ok-content.ensures) m in
           entry_by stored.window.bytes table (place_of c.args.map) U _ _ (ap (λ k. first_of (keys_above keys k)) (to_z-of_z w64 c.args.after c.ranges.after))
-          c.match-branch-2.ok_or w.next_entry_by.result w.ok_or-is c.ok_or.result code.Null
-          c.ok_or.ensures.value (w.next_entry_by.ensures.next inside T U keys vs blocks a.0 s a.1.entry_is)
+          c.match-branch-2.ok_or w.next_entry_by-in-Tree.result w.ok_or-is c.ok_or.result code.Null
+          c.ok_or.ensures.value (w.next_entry_by-in-Tree.ensures.next inside T U keys vs blocks a.0 s a.1.entry_is)
     ]
 
 pub returns-in_err-content-clause-other : goal.returns-in_err-content-clause-other
