@@ -169,6 +169,51 @@ filtered_above : (xs : List ℤ) (k : ℤ) → AllAbove k xs → filter (λ x. i
 filtered_above [] k all = refl
 filtered_above (x ∷ xs) k all = rw (less_true k x all.0, filtered_above xs k all.1) refl
 
+-- ---- the keys that a walk has left
+
+two_ways : (b : Bool) → (b ≡ true) ⊎ (b ≡ false)
+two_ways true = inl refl
+two_ways false = inr refl
+
+above_with : (x : ℤ) (xs : List ℤ) (k : ℤ) → int_lt k x ≡ true → keys_above (x ∷ xs) k ≡ x ∷ keys_above xs k
+above_with x xs k e = rw e refl
+
+above_without : (x : ℤ) (xs : List ℤ) (k : ℤ) → int_lt k x ≡ false → keys_above (x ∷ xs) k ≡ keys_above xs k
+above_without x xs k e = rw e refl
+
+-- the first key above another one is above it
+first_above : (keys : List ℤ) (last key : ℤ) → first_of (keys_above keys last) ≡ Some key → int_lt last key ≡ true
+first_above [] last key e = cc
+first_above (x ∷ xs) last key e = elim (two_ways (int_lt last x)) [
+  | inl is_above ↦ let first = sym (ap first_of (above_with x xs last is_above)) ∙ e in let is : x ≡ key = cc in subst (λ y. int_lt last y ≡ true) is is_above
+  | inr is_low ↦ first_above xs last key (sym (ap first_of (above_without x xs last is_low)) ∙ e)
+]
+
+-- the keys above the first one are all others
+pub first_next : (keys : List ℤ) (key : ℤ) → IsAscending keys → first_of keys ≡ Some key → keys_above keys key ≡ drop 1 keys
+first_next [] key a e = cc
+first_next (x ∷ xs) key a e =
+    let is : x ≡ key = cc in
+    above_without x xs key (subst (λ k. int_lt k x ≡ false) is (not_self x)) ∙ filtered_above xs key (subst (λ k. AllAbove k xs) is (ascending_head x xs a))
+
+-- the keys above the first one of those above another are all others of these
+pub above_next : (keys : List ℤ) (last key : ℤ) → IsAscending keys → first_of (keys_above keys last) ≡ Some key → keys_above keys key ≡ drop 1 (keys_above keys last)
+above_next [] last key a e = cc
+above_next (x ∷ xs) last key a e = elim (two_ways (int_lt last x)) [
+  | inl is_above ↦
+      let first = sym (ap first_of (above_with x xs last is_above)) ∙ e in
+      let is : x ≡ key = cc in
+      let head = ascending_head x xs a in
+      let rest : keys_above xs last ≡ xs = filtered_above xs last (above_less last x xs (record { lt = subst T (sym is_above) tt }) head) in
+      first_next (x ∷ xs) key a (ap Some is) ∙ sym rest ∙ ap (drop 1) (sym (above_with x xs last is_above))
+  | inr is_low ↦
+      let below : int_lt key x ≡ false = not_true (int_lt key x) (λ t.
+      let over = less_true last x (int_chain last key x (record { lt = subst T (sym (first_above (x ∷ xs) last key e)) tt }) (record { lt = t })) in cc) in
+      above_without x xs key below
+      ∙ above_next xs last key (ascending_tail x xs a) (sym (ap first_of (above_without x xs last is_low)) ∙ e)
+      ∙ ap (drop 1) (sym (above_without x xs last is_low))
+]
+
 get_append : {X : Type 0} (xs ys : List X) (i : ℕ) → slice_get (xs ++ ys) (length xs + i) ≡ slice_get ys i
 get_append [] ys i = rw (zero-add i) refl
 get_append (x ∷ xs) ys i = let e : suc (length xs) + i ≡ suc (length xs + i) = omega arith in rw e (get_append xs ys i)
