@@ -28,8 +28,8 @@ pub trait Files {
         ensures nothing_read { OnErr result (was_read self.new ≡ was_read self.old) }
         ensures nothing_written { was_written self.new ≡ was_written self.old };
 
-    /// Makes or replaces a file. If it fails, an existing file is unchanged, except that a disk that fails at the very end can
-    /// leave all the new bytes.
+    /// Makes or replaces a file. A file that has these bytes already may stay as it is. If it fails, an existing file is unchanged,
+    /// except that a disk that fails at the very end can leave all the new bytes.
     fn write(&mut self, name: &str, bytes: &[u8]) -> Result<(), FileFault>
         ensures written { OnOk result (AddsAccesses (was_written self.old) (was_written self.new)
             (access name.now bytes.now ∷ [])) }

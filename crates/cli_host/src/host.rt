@@ -24,6 +24,9 @@ const ACCESS_OF_OWNER: u32 = 0o600;
 /// How many bytes are read or written between two looks at the clock.
 const PIECE: usize = 1 << 22;
 
+/// How many bytes are compared at once: few enough to stay in the processor's cache.
+const COMPARED: usize = 1 << 18;
+
 /// The files of the host. Reading and writing them shows how far it is.
 #[derive(Drop)]
 pub struct HostFiles<'a, R> {
@@ -101,8 +104,13 @@ impl<'a, R: rt::Files<File = File> + AllocGlobal + Clock + Eprint> HostFiles<'a,
     /// a failure changes nothing, except that a disk that fails at the very end can leave the new bytes with an error. The folder
     /// is opened first: if it can't be read, it can't be synced to the disk, and that is an error before anything is written.
     ///
-    /// If the old file has another hard link, that keeps the old bytes.
+    /// If the old file has another hard link, that keeps the old bytes. A file that has these bytes already stays as it is.
     fn replace(&self, name: &str, old: Option<&Metadata>, bytes: &[u8]) -> io::Result<()> {
+        if old.is_some_and(|old| old.len() == bytes.len() as u64)
+            && self.has_already(name, bytes).unwrap_or(false)
+        {
+            return Ok(());
+        }
         let folder = fs::open(self.rt, folder_of(name))?;
         let Beside { name: beside, file } = self.make_beside(name, old)?;
         match self.place(file, beside.as_str(), name, old, bytes) {
@@ -113,6 +121,23 @@ impl<'a, R: rt::Files<File = File> + AllocGlobal + Clock + Eprint> HostFiles<'a,
                 Err(error)
             }
         }
+    }
+
+    /// Whether a file begins with these bytes, on the disk too. It is read as far as the first difference.
+    fn has_already(&self, name: &str, bytes: &[u8]) -> io::Result<bool> {
+        let mut file = fs::open(self.rt, name)?;
+        let mut there = Vec::with_capacity(self.rt.alloc(), bytes.len().min(COMPARED))?;
+        for piece in bytes.chunks(COMPARED) {
+            there.clear();
+            Read::by_ref(&mut file)
+                .take(piece.len() as u64)
+                .read_to_end(&mut there)?;
+            if there.as_slice() != piece {
+                return Ok(false);
+            }
+        }
+        file.sync_all()?;
+        Ok(true)
     }
 
     /// Writes the bytes to a new file beside a name, and renames it to the name.
