@@ -1,9 +1,11 @@
 -- The next name, the next item and the next key, by the index of the last one.
-use Rattle.std.proofs.Common.{◌≡◌, ℕ, zero, suc, ◌+◌, ◌-◌, ◌<◌, ◌≤◌, ◌⊎◌, inl, inr, List, length, Option, Some, None, Result, Ok, Err, refl, sym, ap, subst, arith}
-use Rattle.std.specs.Prelude.{ℤ, slice_get, get_or, true, nat_lt, if◌then◌else◌, IsSomeAnd, MatchResult}
+use Rattle.std.proofs.Common.{◌≡◌, ℕ, zero, suc, ◌+◌, ◌-◌, ◌<◌, ◌≤◌, ◌⊎◌, inl, inr, List, [], ◌∷◌, ◌∙◌, drop, length, Option, Some, None, Result, Ok, Err, refl, sym, ap, subst, arith}
+use Rattle.std.specs.Prelude.{ℤ, int_lt, slice_get, get_or, true, nat_lt, if◌then◌else◌, IsSomeAnd, MatchResult}
 use Rattle.std.specs.Option.{option_map}
 use Rattle.std.specs.Result.{result_ok}
 use Rattle.std.proofs.lemmas.Bool.Decides.{nat_tests}
+use Rattle.std.proofs.lemmas.List.{length-drop}
+use Rattle.std.proofs.lemmas.List.Sums.{length-filter, count_by-le-length}
 use Rattle.std.proofs.lemmas.Option.{slice_get_cases}
 use Rattle.seg_spec.specs.Index.{Root}
 use Rattle.seg_spec.specs.Owning.{Stands}
@@ -15,11 +17,11 @@ use Rattle.seg_index.proofs.RootOrder.{InOrder, stands_there, found_next}
 use Rattle.seg_seq.specs.Sequences.{IsPast}
 use Rattle.seg_map.specs.EitherMap.{IsMapOf}
 use Rattle.seg_map.specs.Maps.{first_of, keys_above}
-use Rattle.seg_map.proofs.KeyLaws as key_laws
+use Rattle.seg_map.proofs.KeyLaws.{first_next, above_next}
 use Rattle.seg_map.proofs.FlatMaps as flat
 use Rattle.seg_map.proofs.TreeMaps as tree
 use Rattle.seg_raw.specs.declared.code.Code.{Code}
-use Rattle.seg_image.specs.Iterators.{item_before}
+use Rattle.seg_image.specs.Iterators.{item_before, keys_after}
 
 -- ---- names
 
@@ -73,12 +75,20 @@ keys_ascend allocator bytes table place U keys vs blocks m s = go (form_at table
     go (Some (Form.shared V)) e is = absurd is
     go None e is = absurd is
 
-pub key_next : (keys : List ℤ) (n : ℕ) → IsAscending keys → (last : ℤ) → Some last ≡ item_before keys n → first_of (keys_above keys last) ≡ slice_get keys n
-key_next keys zero ascending last e = cc
-key_next keys (suc n) ascending last e = key_laws.found_next keys last n (key_laws.parted_at keys last n ascending (sym e))
+-- the keys after the next one
+pub left_next : (keys : List ℤ) (last : Option ℤ) (left : List ℤ) (key : ℤ) → IsAscending keys → keys_after keys last ≡ left → first_of left ≡ Some key → keys_after keys (Some key) ≡ drop 1 left
+left_next keys None left key ascending e first = first_next keys key ascending (ap first_of e ∙ first) ∙ ap (drop 1) e
+left_next keys (Some last) left key ascending e first = above_next keys last key ascending (ap first_of e ∙ first) ∙ ap (drop 1) e
 
-pub no_key_before : (keys : List ℤ) (n : ℕ) → n ≤ length keys → None ≡ item_before keys n → n ≡ 0
-no_key_before keys n within e = none_before (λ k. k) keys n within (ap (option_map (λ k. k)) e)
+pub few_above : (keys : List ℤ) (after : ℤ) → length (keys_above keys after) ≤ length keys
+few_above keys after = let few = count_by-le-length (λ x. int_lt after x) keys in omega (arith, length-filter (λ x. int_lt after x) keys, few)
+
+pub fewer_left : (left : List ℤ) (most : ℕ) → length left ≤ most + 1 → length (drop 1 left) ≤ most
+fewer_left left most h = simp (length-drop) (omega (arith, h))
+
+pub none_left : (left : List ℤ) → length left ≤ 0 → first_of left ≡ None
+none_left [] h = refl
+none_left (k ∷ ks) h = absurd (omega (arith, h))
 
 -- ---- results that were made options
 

@@ -6,11 +6,12 @@
 --                                  a position, if there is one, is where the item before an index is
 --     HasReturned segment U count iterator n
 --                                  it has returned the first n of `count` items of type U
---     HasKeyed segment keys iterator n
---                                  it has returned the first n of these keys, and its cursor is valid
+--     keys_after keys last         the keys above the last one, or all if there is none
+--     HasKeysLeft segment keys iterator left
+--                                  of these keys it has `left` to return, and its cursor is valid
 --     NamesNext, ItemsNext, KeysNext, EntriesNext
 --                                  what `next` returns: the next one, or none after the last
-use Rattle.std.specs.Prelude.{◌≡◌, ⊤, ℕ, zero, suc, ◌+◌, ◌-◌, ◌≤◌, ℤ, false, List, length, Option, Some, None, IsSomeAnd, MatchOption, slice_get}
+use Rattle.std.specs.Prelude.{◌≡◌, ⊤, ℕ, zero, suc, ◌+◌, ◌-◌, ◌≤◌, ℤ, false, List, length, drop, Option, Some, None, IsSomeAnd, MatchOption, slice_get}
 use Rattle.std.specs.Option.{option_map, IfSome}
 use Rattle.seg_spec.specs.Index.{Root}
 use Rattle.seg_spec.specs.Sound.{Picture}
@@ -24,7 +25,7 @@ use Rattle.seg_value.specs.Stored.{Stored}
 use Rattle.seg_seq.specs.Lists.{HasList}
 use Rattle.seg_seq.specs.Sequences.{HasItems, ShowsItem}
 use Rattle.seg_map.specs.EitherMap.{IsMapOf}
-use Rattle.seg_map.specs.Maps.{FindsValue}
+use Rattle.seg_map.specs.Maps.{FindsValue, first_of, keys_above}
 use Rattle.seg_manager.specs.declared.listing.Named.{Named}
 use Rattle.seg_manager.specs.NamedObjects.{DescribesRoot}
 use Rattle.seg_manager.specs.Segments.{IsSegment}
@@ -93,20 +94,25 @@ pub record ItemsNext {S : Type 0} (allocator : S → ℕ) (stored : S → Stored
 
 -- ---- maps
 
-pub record HasKeyed {S : Type 0} (segment : Stored) (keys : List ℤ) (it : Keys S) (n : ℕ) :
-    Type 0 where
-  pub cursor : LeadsInside segment.window.bytes it.cursor
-  pub last : it.last ≡ item_before keys n
-  pub left : it.left + n ≡ length keys
+abbrev pub keys_after : List ℤ → Option ℤ → List ℤ
+keys_after keys None = keys
+keys_after keys (Some last) = keys_above keys last
+
+pub record HasKeysLeft {S : Type 0} (segment : Stored) (keys : List ℤ) (it : Keys S)
+    (left : List ℤ) : Type 0 where
+  pub cursor : LeadsInside segment.window.bytes it.cursor.path
+  pub left_is : keys_after keys it.last ≡ left
+  pub most : length left ≤ it.left
 
 pub record KeysNext {S : Type 0} (allocator : S → ℕ) (stored : S → Stored) (old : Keys S)
     (result : Option ℤ) (new : Keys S) : Type 0 where
   pub image : new.image ≡ old.image
   pub map : new.map ≡ old.map
   pub next : WhereMap (allocator old.image.now) (stored old.image.now) old.map
-      (λ U keys vs blocks. (n : ℕ) → HasKeyed (stored old.image.now) keys old n →
-      (result ≡ slice_get keys n) ×
-      MatchOption result ⊤ (λ key. HasKeyed (stored old.image.now) keys new (suc n)))
+      (λ U keys vs blocks. (left : List ℤ) →
+      HasKeysLeft (stored old.image.now) keys old left → (result ≡ first_of left) ×
+      MatchOption result ⊤
+      (λ key. HasKeysLeft (stored old.image.now) keys new (drop 1 left)))
 
 -- the value of a key of a map, at a place
 pub record IsMapEntry (segment : Stored) (map : Place) (U : ℕ) (keys : List ℤ) (key : ℤ)
@@ -120,8 +126,9 @@ pub record EntriesNext {S : Type 0} (allocator : S → ℕ) (stored : S → Stor
   pub image : new.0.image ≡ old.0.image
   pub map : new.0.map ≡ old.0.map
   pub next : WhereMap (allocator old.0.image.now) (stored old.0.image.now) old.0.map
-      (λ U keys vs blocks. (n : ℕ) → HasKeyed (stored old.0.image.now) keys old.0 n →
-      (option_map (λ entry. entry.0) result ≡ slice_get keys n) ×
+      (λ U keys vs blocks. (left : List ℤ) →
+      HasKeysLeft (stored old.0.image.now) keys old.0 left →
+      (option_map (λ entry. entry.0) result ≡ first_of left) ×
       MatchOption result ⊤
       (λ entry. IsMapEntry (stored old.0.image.now) old.0.map U keys entry.0 entry.1
-      × HasKeyed (stored old.0.image.now) keys new.0 (suc n)))
+      × HasKeysLeft (stored old.0.image.now) keys new.0 (drop 1 left)))

@@ -9,20 +9,19 @@ ghost use Rattle.seg_spec.specs.Sound.{Picture};
 ghost use Rattle.seg_spec.specs.Value.{Values, count};
 ghost use Rattle.seg_rbtree.specs.Following.{LeadsInside};
 ghost use Rattle.seg_value.specs.CellPlaces.{place_of};
-ghost use Rattle.seg_map.specs.Maps.{FindsEntry};
+ghost use Rattle.seg_map.specs.Maps.{FindsEntry, first_of};
 ghost use Rattle.seg_seq.specs.Lists.{HasList};
 ghost use Rattle.seg_seq.specs.Sequences.{HasItems, ShowsItem};
 ghost use Rattle.seg_manager.specs.NamedObjects.{DescribesRoot};
 ghost use Rattle.seg_manager.specs.Segments.{IsSegment};
-ghost use Rattle.seg_image.specs.Iterators.{item_before, NamesNext, ItemsNext, ShowsItemBefore, KeysNext, EntriesNext};
+ghost use Rattle.seg_image.specs.Iterators.{item_before, NamesNext, ItemsNext, ShowsItemBefore, keys_after, KeysNext, EntriesNext};
 ghost use Rattle.seg_image.specs.Places.{WhereMap};
 
 use crate::places::{placed_entry, value_type_at};
 use seg_layout::TypeId;
 use seg_manager::Named;
-use seg_map::KeyValue;
+use seg_map::{KeyCursor, KeyValue};
 use seg_raw::Code;
-use seg_rbtree::Path;
 use seg_value::{Place, SegmentRead, ValueAt};
 
 /// The names of an image in order, from [`ImageRead::names`].
@@ -46,18 +45,19 @@ pub struct Items<'a, S> {
     pub(crate) left: u32,
 }
 
-/// The keys of a map in order, from [`ImageRead::keys`].
+/// The keys of a map in order, from [`ImageRead::keys`] or [`ImageRead::keys_above`].
 #[derive(Drop)]
 pub struct Keys<'a, S> {
     pub(crate) image: &'a S,
     pub(crate) map: Place,
-    /// The path to the last key in a tree map, from which the next key is one step.
-    pub(crate) cursor: Path,
+    /// Where the last key is, so that the next one is a step away.
+    pub(crate) cursor: KeyCursor,
     pub(crate) last: Option<i64>,
     pub(crate) left: u32,
 }
 
-/// The keys of a map in order with the places of their values, from [`ImageRead::entries`].
+/// The keys of a map in order with the places of their values, from [`ImageRead::entries`] or
+/// [`ImageRead::entries_above`].
 #[derive(Drop)]
 pub struct Entries<'a, S>(pub(crate) Keys<'a, S>);
 
@@ -173,21 +173,21 @@ impl<'a, S: SegmentRead> Iterator for Entries<'a, S> {
     }
 }
 
-/// The least key of a map above another one, or the least of all, with the position of its value. In a tree map the
-/// cursor is left at the key, so the following call is one step.
+/// The least key of a map above another one, or the least of all, with the position of its value. The cursor is left at
+/// the key, so the following call is one step.
 fn entry_after<S: SegmentRead>(
     image: &S,
-    cursor: &mut Path,
+    cursor: &mut KeyCursor,
     map: Place,
     last: Option<i64>,
 ) -> Result<KeyValue, Code>
-    ensures next { LeadsInside (S.stored image.now).window.bytes cursor.old →
+    ensures next { LeadsInside (S.stored image.now).window.bytes cursor.old.path →
         WhereMap (S.allocator image.now) (S.stored image.now) map
-        (λ U keys vs blocks. (n : ℕ) → n ≤ length keys → last ≡ item_before keys n →
-        FindsEntry (S.stored image.now).window.bytes (S.stored image.now).types (place_of map) U
-        (slice_get keys n) (result_ok result)) }
-    ensures inside { LeadsInside (S.stored image.now).window.bytes cursor.old →
-        LeadsInside (S.stored image.now).window.bytes cursor.new }
+        (λ U keys vs blocks. FindsEntry (S.stored image.now).window.bytes
+        (S.stored image.now).types (place_of map) U (first_of (keys_after keys last))
+        (result_ok result)) }
+    ensures inside { LeadsInside (S.stored image.now).window.bytes cursor.old.path →
+        LeadsInside (S.stored image.now).window.bytes cursor.new.path }
 {
     match last {
         Some(key) => seg_map::next_entry_by(image, cursor, map, key),

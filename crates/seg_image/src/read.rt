@@ -19,7 +19,7 @@ ghost use Rattle.seg_index.specs.Lists.{root_after};
 ghost use Rattle.seg_manager.specs.Segments.{IsSegment, unique_at};
 ghost use Rattle.seg_manager.specs.NamedObjects.{found_as, DescribesRoot};
 ghost use Rattle.seg_image.specs.Places.{found_position, found_entry, first_place, item_place, value_count, is_counted, object_type, content_place, shared_type, frozen_place, FieldPlace, WhereMap};
-ghost use Rattle.seg_image.specs.Iterators.{HasNamed, HasKeyed, HasReturned};
+ghost use Rattle.seg_image.specs.Iterators.{HasNamed, HasKeysLeft, HasReturned};
 
 use crate::iterators::{Entries, Items, Keys, Names};
 use crate::places::{
@@ -28,8 +28,8 @@ use crate::places::{
 };
 use seg_layout::{Type, TypeId};
 use seg_manager::Named;
+use seg_map::KeyCursor;
 use seg_raw::Code;
-use seg_rbtree::Path;
 use seg_value::{Place, SegmentRead};
 
 /// The size of a number in bytes.
@@ -460,8 +460,7 @@ pub trait ImageRead: SegmentRead {
         placed_entry(seg_map::previous_entry(self, map, before), value)
     }
 
-    /// The keys of a map in order. `OtherType` if the place isn't a map. In a tree map each key is found from the one
-    /// before it.
+    /// The keys of a map in order. `OtherType` if the place isn't a map. Each key is found from the one before it.
     final fn keys(&self, map: Place) -> Result<Keys<'_, Self>, Code>
         ensures image { IfOk result (λ it. (it.image.now ≡ self.now) × (it.map ≡ map)) }
         ensures other { has_keys (form_at (Self.stored self.now).types map.type_id) ≡ false →
@@ -470,20 +469,36 @@ pub trait ImageRead: SegmentRead {
             IsOk result }
         ensures first { WhereMap (Self.allocator self.now) (Self.stored self.now) map
             (λ U keys vs blocks. IfOk result
-            (λ it. HasKeyed (Self.stored self.now) keys it 0)) }
+            (λ it. HasKeysLeft (Self.stored self.now) keys it keys)) }
     {
         let left = seg_map::len(self, map)?;
         Ok(Keys {
             image: self,
             map,
-            cursor: Path::new(map.at as usize),
+            cursor: KeyCursor::new(),
             last: None,
             left,
         })
     }
 
-    /// The keys of a map in order, each with the place of its value. `OtherType` if the place isn't a map. In a tree map
-    /// each key is found from the one before it.
+    /// Like [`keys`](ImageRead::keys), with only the keys above another one, which need not exist.
+    final fn keys_above(&self, map: Place, after: i64) -> Result<Keys<'_, Self>, Code>
+        ensures image { IfOk result (λ it. (it.image.now ≡ self.now) × (it.map ≡ map)) }
+        ensures other { has_keys (form_at (Self.stored self.now).types map.type_id) ≡ false →
+            result ≡ Err Code.OtherType }
+        ensures some { has_keys (form_at (Self.stored self.now).types map.type_id) ≡ true →
+            IsOk result }
+        ensures first { WhereMap (Self.allocator self.now) (Self.stored self.now) map
+            (λ U keys vs blocks. IfOk result
+            (λ it. HasKeysLeft (Self.stored self.now) keys it (keys_above keys after))) }
+    {
+        let mut keys = self.keys(map)?;
+        keys.last = Some(after);
+        Ok(keys)
+    }
+
+    /// The keys of a map in order, each with the place of its value. `OtherType` if the place isn't a map. Each key is
+    /// found from the one before it.
     final fn entries(&self, map: Place) -> Result<Entries<'_, Self>, Code>
         ensures image { IfOk result (λ it. (it.0.image.now ≡ self.now) × (it.0.map ≡ map)) }
         ensures other { has_keys (form_at (Self.stored self.now).types map.type_id) ≡ false →
@@ -492,9 +507,23 @@ pub trait ImageRead: SegmentRead {
             IsOk result }
         ensures first { WhereMap (Self.allocator self.now) (Self.stored self.now) map
             (λ U keys vs blocks. IfOk result
-            (λ it. HasKeyed (Self.stored self.now) keys it.0 0)) }
+            (λ it. HasKeysLeft (Self.stored self.now) keys it.0 keys)) }
     {
         Ok(Entries(self.keys(map)?))
+    }
+
+    /// Like [`entries`](ImageRead::entries), with only the keys above another one, which need not exist.
+    final fn entries_above(&self, map: Place, after: i64) -> Result<Entries<'_, Self>, Code>
+        ensures image { IfOk result (λ it. (it.0.image.now ≡ self.now) × (it.0.map ≡ map)) }
+        ensures other { has_keys (form_at (Self.stored self.now).types map.type_id) ≡ false →
+            result ≡ Err Code.OtherType }
+        ensures some { has_keys (form_at (Self.stored self.now).types map.type_id) ≡ true →
+            IsOk result }
+        ensures first { WhereMap (Self.allocator self.now) (Self.stored self.now) map
+            (λ U keys vs blocks. IfOk result
+            (λ it. HasKeysLeft (Self.stored self.now) keys it.0 (keys_above keys after))) }
+    {
+        Ok(Entries(self.keys_above(map, after)?))
     }
 }
 
