@@ -280,7 +280,13 @@ next_entry A 0 => type
 last_entry A => type
 previous_entry A 0 => type
 keys M: -5 3 4
+keys_above M -6: -5 3 4
+keys_above M -5: 3 4
+keys_above A 0 => type
 entries M: -5 -10 3 6 4 0
+entries_above M -6: -5 -10 3 6 4 0
+entries_above M 0: 3 6 4 0
+entries_above A 0 => type
 remove M 3
 remove M 3 => no
 get M 3 => absent

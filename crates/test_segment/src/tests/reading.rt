@@ -3,7 +3,7 @@
 use crate::tests::answers::{Answer, count, flag, flag_or_code, number, place, size};
 use crate::tests::calls::{Call, is_written};
 use crate::tests::verbs::Verb;
-use seg_image::{CheckedImage, Code, Image, ImageRead, Named, Place};
+use seg_image::{CheckedImage, Code, Entries, Image, ImageRead, Keys, Named, Place};
 use std::alloc::Global;
 
 /// Makes a call on an open image. Returns `None` if the call doesn't only read.
@@ -71,8 +71,17 @@ fn read_containers(image: &Image<Global>, call: &Call) -> Option<Answer> {
             image.previous_entry(call.place, call.long()),
             call.text,
         ),
-        Verb::Keys => flag_or_code(are_keys(image, call)),
-        Verb::Entries => flag_or_code(are_entries(image, call)),
+        Verb::Keys => flag_or_code(are_keys(image.keys(call.place), call.text)),
+        Verb::KeysAbove => flag_or_code(are_keys(
+            image.keys_above(call.place, call.long()),
+            call.text,
+        )),
+        Verb::Entries => flag_or_code(are_entries(image, image.entries(call.place), call.text)),
+        Verb::EntriesAbove => flag_or_code(are_entries(
+            image,
+            image.entries_above(call.place, call.long()),
+            call.text,
+        )),
         _ => return None,
     })
 }
@@ -119,29 +128,33 @@ fn are_items(image: &Image<Global>, call: &Call) -> Result<bool, Code> {
     Ok(has_words(call.text, count))
 }
 
-/// Whether a map has the keys of the call's text, in order.
-fn are_keys(image: &Image<Global>, call: &Call) -> Result<bool, Code> {
+/// Whether these are the keys of a text, in order.
+fn are_keys(keys: Result<Keys<'_, Image<Global>>, Code>, text: &str) -> Result<bool, Code> {
     let mut count = 0usize;
-    for key in image.keys(call.place)? {
-        if !is_word(call.text, count, key) {
+    for key in keys? {
+        if !is_word(text, count, key) {
             return Ok(false);
         }
         count = count.wrapping_add(1);
     }
-    Ok(has_words(call.text, count))
+    Ok(has_words(text, count))
 }
 
-/// Whether a map has the keys of the call's text, in order, each followed by its number.
-fn are_entries(image: &Image<Global>, call: &Call) -> Result<bool, Code> {
+/// Whether these are the entries of a text, in order: each key is followed by its number.
+fn are_entries(
+    image: &Image<Global>,
+    entries: Result<Entries<'_, Image<Global>>, Code>,
+    text: &str,
+) -> Result<bool, Code> {
     let mut count = 0usize;
-    for (key, value) in image.entries(call.place)? {
+    for (key, value) in entries? {
         let number = ImageRead::load(image, value)?;
-        if !is_word(call.text, count, key) || !is_word(call.text, count.wrapping_add(1), number) {
+        if !is_word(text, count, key) || !is_word(text, count.wrapping_add(1), number) {
             return Ok(false);
         }
         count = count.wrapping_add(2);
     }
-    Ok(has_words(call.text, count))
+    Ok(has_words(text, count))
 }
 
 /// Whether an entry of a map has the key and the number of a text.

@@ -18,6 +18,7 @@ pub(crate) enum Verb {
     DestroyUnique,
     Distance,
     Entries,
+    EntriesAbove,
     Fault,
     Field,
     Find,
@@ -37,6 +38,7 @@ pub(crate) enum Verb {
     Item,
     Items,
     Keys,
+    KeysAbove,
     LargestGap,
     LastEntry,
     LastKey,
@@ -76,7 +78,7 @@ pub(crate) enum Verb {
 }
 
 // Each call with its word.
-static VERBS: [(&str, Verb); 70] = [
+static VERBS: [(&str, Verb); 72] = [
     ("all_memory_deallocated", Verb::AllMemoryDeallocated),
     ("append", Verb::Append),
     ("assign", Verb::Assign),
@@ -92,6 +94,7 @@ static VERBS: [(&str, Verb); 70] = [
     ("destroy_unique", Verb::DestroyUnique),
     ("distance", Verb::Distance),
     ("entries", Verb::Entries),
+    ("entries_above", Verb::EntriesAbove),
     ("fault", Verb::Fault),
     ("field", Verb::Field),
     ("find", Verb::Find),
@@ -111,6 +114,7 @@ static VERBS: [(&str, Verb); 70] = [
     ("item", Verb::Item),
     ("items", Verb::Items),
     ("keys", Verb::Keys),
+    ("keys_above", Verb::KeysAbove),
     ("largest_gap", Verb::LargestGap),
     ("last_entry", Verb::LastEntry),
     ("last_key", Verb::LastKey),
