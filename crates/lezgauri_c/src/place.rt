@@ -16,6 +16,19 @@ pub struct Place {
     pub type_id: u32,
 }
 
+impl From<ValuePlace> for Place {
+    ghost use Rattle.lezgauri_c.specs.Places.{told_place};
+
+    ghost from_gives = { λ place told. told ≡ told_place place };
+
+    fn from(place: ValuePlace) -> Place {
+        Place {
+            at: place.at,
+            type_id: u32::from(place.type_id),
+        }
+    }
+}
+
 /// The type with this number. Segments have at most 32 types, so no segment has a type with a number above 254.
 pub(crate) fn type_number(number: u32) -> TypeId
     ensures { result ≡ places.type_number number }
@@ -44,11 +57,8 @@ pub(crate) fn give(returned: Result<ValuePlace, Code>, place: &mut Place) -> u32
     ensures status { (result ≡ 0) ⊎ ((111 ≤ result) × (result ≤ 117)) }
 {
     match returned {
-        Ok(ValuePlace { at, type_id }) => {
-            *place = Place {
-                at,
-                type_id: u32::from(type_id),
-            };
+        Ok(found) => {
+            *place = Place::from(found);
             OK
         }
         Err(code) => code_status(code),
@@ -67,12 +77,9 @@ pub(crate) fn give_entry(
     ensures status { (result ≡ 0) ⊎ ((111 ≤ result) × (result ≤ 117)) }
 {
     match returned {
-        Ok((found, ValuePlace { at, type_id })) => {
+        Ok((found, value)) => {
             *key = found;
-            *place = Place {
-                at,
-                type_id: u32::from(type_id),
-            };
+            *place = Place::from(value);
             OK
         }
         Err(code) => code_status(code),
