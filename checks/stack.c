@@ -285,7 +285,9 @@ static void *open_reader(void *given)
         uint32_t len;                                                                                                                   \
         lezgauri_bytes bytes;                                                                                                           \
         lezgauri_named named;                                                                                                           \
-        (void)place, (void)number, (void)len, (void)bytes, (void)named;                                                                 \
+        lezgauri_entry entries[4];                                                                                                      \
+        size_t count;                                                                                                                   \
+        (void)place, (void)number, (void)len, (void)bytes, (void)named, (void)entries, (void)count;                                     \
         of->status = call;                                                                                                              \
         return NULL;                                                                                                                    \
     }
@@ -312,6 +314,7 @@ CALL(put, lezgauri_put(of->values, of->place[MAP], 7, &place))
 CALL(get, lezgauri_get(of->values, of->place[MAP], 7, &of->place[OWN]))
 CALL(next_key, lezgauri_next_key(of->values, of->place[MAP], NULL, &number))
 CALL(next_entry, lezgauri_next_entry(of->values, of->place[MAP], NULL, &number, &place))
+CALL(next_entries, lezgauri_next_entries(of->values, of->place[MAP], NULL, entries, 4, &count))
 CALL(put_content, lezgauri_put_content(of->values, of->place[OWN], &place))
 CALL(content, lezgauri_content(of->values, of->place[OWN], &place))
 CALL(len, lezgauri_len(of->values, of->place[MAP], &len))
@@ -382,6 +385,7 @@ static const struct {
     {"lezgauri_get", get, LEZGAURI_STACK_READ},
     {"lezgauri_next_key", next_key, LEZGAURI_STACK_READ},
     {"lezgauri_next_entry", next_entry, LEZGAURI_STACK_READ},
+    {"lezgauri_next_entries", next_entries, LEZGAURI_STACK_READ},
     {"lezgauri_put_content", put_content, LEZGAURI_STACK_RUN},
     {"lezgauri_content", content, LEZGAURI_STACK_READ},
     {"lezgauri_len", len, LEZGAURI_STACK_READ},

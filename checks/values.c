@@ -504,6 +504,33 @@ static void lists(lezgauri_handle *handle)
     done("destroy", lezgauri_destroy(handle, "list", LIST));
 }
 
+/* Reads a map in batches of each size, and compares it with keys in order. The value of keys[i] is 2 * i + 1. Entries that a call doesn't
+ * return are as before. */
+static void batches(lezgauri_handle *handle, lezgauri_place map, const int64_t *keys, size_t len)
+{
+    lezgauri_entry entries[64], before[64];
+    memset(before, 0x55, sizeof before);
+    for (size_t room = 1; room <= len + 2; room++) {
+        const int64_t *after = NULL;
+        size_t read = 0, count = room;
+        while (count == room) {
+            size_t wanted = len - read < room ? len - read : room;
+            int64_t from = after == NULL ? 0 : *after;
+            memcpy(entries, before, sizeof entries);
+            done("next entries", lezgauri_next_entries(handle, map, after == NULL ? NULL : &from, entries, room, &count));
+            expect("next entries: count", count, wanted);
+            for (size_t i = 0; i < wanted; i++) {
+                expect("next entries: key", (uint64_t)entries[i].key, (uint64_t)keys[read + i]);
+                expect("next entries: value", (uint64_t)number_at(handle, entries[i].value), 2 * (read + i) + 1);
+            }
+            expect("next entries: the others", (uint64_t)memcmp(entries + wanted, before, (64 - wanted) * sizeof *entries), 0);
+            read += wanted;
+            after = wanted > 0 ? &entries[wanted - 1].key : NULL;
+        }
+        expect("next entries: all", read, len);
+    }
+}
+
 /* Puts the keys of a row, which jump between both ends, and compares the map with the row in order. */
 static void maps(lezgauri_handle *handle, uint32_t type)
 {
@@ -523,6 +550,7 @@ static void maps(lezgauri_handle *handle, uint32_t type)
     expect("previous entry of none", lezgauri_previous_entry(handle, map, NULL, &key, &value), LEZGAURI_NO_VALUE);
     expect("next entry of none: as before", (uint64_t)key, 7);
     expect("next entry of none: as before", is_same(value, (lezgauri_place){7, type}), 1);
+    batches(handle, map, keys, 0);
     for (int i = 0; i < COUNT; i++) {
         int which = i * STEP % COUNT;
         expect("get, not yet", lezgauri_get(handle, map, keys[which], &value), LEZGAURI_ABSENT);
@@ -570,7 +598,25 @@ static void maps(lezgauri_handle *handle, uint32_t type)
         from = &key;
     }
     expect("previous entry of the least", lezgauri_previous_entry(handle, map, &key, &key, &value), LEZGAURI_NO_VALUE);
+    batches(handle, map, keys, COUNT);
+    lezgauri_entry entries[3] = {{7, {7, type}}};
+    size_t count = 0;
+    from = NULL;
+    for (int i = 0; i < COUNT; i += 3) {
+        done("next entries, after one of them", lezgauri_next_entries(handle, map, from, entries, 3, &count));
+        expect("next entries, after one of them: count", count, i + 3 <= COUNT ? 3 : COUNT % 3);
+        expect("next entries, after one of them: key", (uint64_t)entries[0].key, (uint64_t)keys[i]);
+        from = &entries[count - 1].key;
+    }
+    done("next entries of the greatest", lezgauri_next_entries(handle, map, &keys[COUNT - 1], entries, 3, &count));
+    expect("next entries of the greatest", count, 0);
+    count = 7;
+    done("next entries, no room", lezgauri_next_entries(handle, map, NULL, NULL, 0, &count));
+    expect("next entries, no room", count, 0);
     int64_t between = 500;
+    done("next entries of no key", lezgauri_next_entries(handle, map, &between, entries, 2, &count));
+    expect("next entries of no key", count == 2 && entries[0].key == 1000 && entries[1].key == 2000, 1);
+    expect("next entries of no key: value", (uint64_t)number_at(handle, entries[0].value), 2 * (COUNT / 2 + 1) + 1);
     done("next key of no key", lezgauri_next_key(handle, map, &between, &key));
     expect("next key of no key", (uint64_t)key, 1000);
     done("previous key of no key", lezgauri_previous_key(handle, map, &between, &key));
@@ -591,6 +637,12 @@ static void maps(lezgauri_handle *handle, uint32_t type)
         done("get, the others", lezgauri_get(handle, map, keys[i], &value));
         expect("get, the others", (uint64_t)number_at(handle, value), 2 * (uint64_t)i + 1);
     }
+    lezgauri_entry odd[COUNT];
+    done("next entries, the others", lezgauri_next_entries(handle, map, NULL, odd, COUNT, &count));
+    expect("next entries, the others: count", count, COUNT / 2);
+    for (int i = 0; i < COUNT / 2; i++) {
+        expect("next entries, the others", (uint64_t)odd[i].key, (uint64_t)keys[2 * i + 1]);
+    }
     is_sound("remove: sound", handle);
     /* a tree has no buffer */
     expect("shrink to fit", lezgauri_shrink_to_fit(handle, map), type == FLAT_MAP ? LEZGAURI_OK : LEZGAURI_OTHER_TYPE);
@@ -605,6 +657,13 @@ static void maps(lezgauri_handle *handle, uint32_t type)
     expect("next entry of a number", lezgauri_next_entry(handle, value, &between, &key, &other), LEZGAURI_OTHER_TYPE);
     expect("previous entry of a number", lezgauri_previous_entry(handle, value, NULL, &key, &other), LEZGAURI_OTHER_TYPE);
     expect("previous entry of a number", lezgauri_previous_entry(handle, value, &between, &key, &other), LEZGAURI_OTHER_TYPE);
+    entries[0] = (lezgauri_entry){7, {7, type}};
+    count = 7;
+    expect("next entries of a number", lezgauri_next_entries(handle, value, NULL, entries, 3, &count), LEZGAURI_OTHER_TYPE);
+    expect("next entries of a number", lezgauri_next_entries(handle, value, &between, entries, 3, &count), LEZGAURI_OTHER_TYPE);
+    expect("next entries of a number, no room", lezgauri_next_entries(handle, value, NULL, NULL, 0, &count), LEZGAURI_OTHER_TYPE);
+    expect("next entries of a number: as before", entries[0].key == 7 && is_same(entries[0].value, (lezgauri_place){7, type}), 1);
+    expect("next entries of a number: as before", count, 7);
     uint32_t status;
     do {
         status = lezgauri_put(handle, map, between++, &value);
@@ -826,6 +885,22 @@ static uint32_t make_first_entry(const given *g) { return make_entry(g, NULL, le
 static uint32_t make_last_entry(const given *g) { return make_entry(g, NULL, lezgauri_previous_entry); }
 static uint32_t make_next_entry(const given *g) { return make_entry(g, &(int64_t){g->index}, lezgauri_next_entry); }
 static uint32_t make_previous_entry(const given *g) { return make_entry(g, &(int64_t){g->index}, lezgauri_previous_entry); }
+
+/* What a call on several entries returns. */
+enum { BATCH = 3 };
+typedef struct batch {
+    lezgauri_entry entries[BATCH];
+    size_t count;
+} batch;
+
+static uint32_t make_entries(const given *g, const int64_t *after)
+{
+    char *entries = g->result;
+    size_t *count = (size_t *)(entries == NULL ? NULL : entries + offsetof(batch, count));
+    return lezgauri_next_entries(g->handle, g->place, after, (lezgauri_entry *)entries, BATCH, count);
+}
+static uint32_t make_first_entries(const given *g) { return make_entries(g, NULL); }
+static uint32_t make_next_entries(const given *g) { return make_entries(g, &(int64_t){g->index}); }
 static uint32_t make_content(const given *g) { return lezgauri_content(g->handle, g->place, g->result); }
 
 static uint32_t make_add_types(const given *g) { return lezgauri_add_types(g->handle, table, TYPES, NULL); }
@@ -869,12 +944,6 @@ typedef struct call {
     bool changes;
 } call;
 
-/* What the calls on entries return. */
-typedef struct entry {
-    int64_t key;
-    lezgauri_place value;
-} entry;
-
 #define RETURNS(type) sizeof(type), alignof(type)
 
 static const call calls[] = {
@@ -896,10 +965,12 @@ static const call calls[] = {
     {"last key", make_last_key, RETURNS(int64_t), false, false},
     {"next key", make_next_key, RETURNS(int64_t), false, false},
     {"previous key", make_previous_key, RETURNS(int64_t), false, false},
-    {"first entry", make_first_entry, RETURNS(entry), false, false},
-    {"last entry", make_last_entry, RETURNS(entry), false, false},
-    {"next entry", make_next_entry, RETURNS(entry), false, false},
-    {"previous entry", make_previous_entry, RETURNS(entry), false, false},
+    {"first entry", make_first_entry, RETURNS(lezgauri_entry), false, false},
+    {"last entry", make_last_entry, RETURNS(lezgauri_entry), false, false},
+    {"next entry", make_next_entry, RETURNS(lezgauri_entry), false, false},
+    {"previous entry", make_previous_entry, RETURNS(lezgauri_entry), false, false},
+    {"first entries", make_first_entries, RETURNS(batch), false, false},
+    {"next entries", make_next_entries, RETURNS(batch), false, false},
     {"content", make_content, RETURNS(lezgauri_place), false, false},
     {"add types", make_add_types, 0, 1, false, true},
     {"upgrade", make_upgrade, 0, 1, false, true},
@@ -934,6 +1005,7 @@ typedef union result {
     lezgauri_place place;
     lezgauri_named named;
     lezgauri_bytes bytes;
+    batch batch;
     int64_t number;
     uint32_t len;
     uint8_t all[sizeof(lezgauri_named)];
@@ -1058,6 +1130,38 @@ static void arguments(void)
     expect("next entry, the value in the segment",
            lezgauri_next_entry(handle, places[MAP], NULL, &keys[1], (lezgauri_place *)(memory + 704)), LEZGAURI_BAD_ARGUMENT);
     expect("next entry, refused: as before", (uint64_t)keys[1], 7);
+    batch several = {.count = 7};
+    lezgauri_entry *entries = several.entries;
+    size_t *count = &several.count;
+    expect("next entries, null and a room", lezgauri_next_entries(handle, places[MAP], NULL, NULL, 1, count), LEZGAURI_BAD_ARGUMENT);
+    expect("next entries, no count", lezgauri_next_entries(handle, places[MAP], NULL, entries, BATCH, NULL), LEZGAURI_BAD_ARGUMENT);
+    expect("next entries, no count and no room", lezgauri_next_entries(handle, places[MAP], NULL, NULL, 0, NULL), LEZGAURI_BAD_ARGUMENT);
+    expect("next entries, from a number that isn't aligned",
+           lezgauri_next_entries(handle, places[MAP], (int64_t *)((char *)keys + 4), entries, BATCH, count), LEZGAURI_BAD_ARGUMENT);
+    expect("next entries that aren't aligned",
+           lezgauri_next_entries(handle, places[MAP], NULL, (lezgauri_entry *)((char *)entries + 4), 1, count), LEZGAURI_BAD_ARGUMENT);
+    expect("next entries, a count that isn't aligned",
+           lezgauri_next_entries(handle, places[MAP], NULL, entries, 1, (size_t *)((char *)count + 4)), LEZGAURI_BAD_ARGUMENT);
+    static const size_t rooms[] = {SIZE_MAX, SIZE_MAX / sizeof *entries + 2, PTRDIFF_MAX / sizeof *entries + 1};
+    for (size_t i = 0; i < sizeof rooms / sizeof *rooms; i++) {
+        expect("next entries, too much room", lezgauri_next_entries(handle, places[MAP], NULL, entries, rooms[i], count),
+               LEZGAURI_BAD_ARGUMENT);
+    }
+    expect("next entries, the count in the last one",
+           lezgauri_next_entries(handle, places[MAP], NULL, entries, BATCH, (size_t *)&entries[BATCH - 1].value), LEZGAURI_BAD_ARGUMENT);
+    expect("next entries, the last one over the count", lezgauri_next_entries(handle, places[MAP], NULL, entries, BATCH + 1, count),
+           LEZGAURI_BAD_ARGUMENT);
+    expect("next entries, the last one over the segment",
+           lezgauri_next_entries(handle, places[MAP], NULL, (lezgauri_entry *)(memory - 16), 2, count), LEZGAURI_BAD_ARGUMENT);
+    expect("next entries in the handle", lezgauri_next_entries(handle, places[MAP], NULL, (lezgauri_entry *)handle, 1, count),
+           LEZGAURI_BAD_ARGUMENT);
+    expect("next entries, the count in the segment",
+           lezgauri_next_entries(handle, places[MAP], NULL, entries, BATCH, (size_t *)(memory + 704)), LEZGAURI_BAD_ARGUMENT);
+    expect("next entries, the count in the handle", lezgauri_next_entries(handle, places[MAP], NULL, entries, BATCH, (size_t *)handle),
+           LEZGAURI_BAD_ARGUMENT);
+    expect("next entries, refused: as before", entries[0].key == 0 && entries[2].key == 0 && *count == 7, 1);
+    done("next entries, up to the count", lezgauri_next_entries(handle, places[MAP], NULL, entries, BATCH, count));
+    expect("next entries, up to the count", entries[0].key == 0 && entries[1].key == 10 && entries[2].key == 20 && *count == 3, 1);
     lezgauri_fault fault = {.number = 7};
     expect("add types, null and a count", lezgauri_add_types(handle, NULL, 1, &fault), LEZGAURI_BAD_ARGUMENT);
     expect("add types, null and a count: number", fault.number, LEZGAURI_BAD_ARGUMENT);
@@ -1099,7 +1203,7 @@ static uint32_t position(uint32_t seed)
     return seed % 2 == 0 ? special[seed / 2 % count] : 704 + seed * 40503u % (SIZE - 704) / 8 * 8;
 }
 
-/* A range that a call returned must be in the image. */
+/* A range that a call returned must be in the image, a name must end, and entries must have had room. */
 static void is_inside(const call *of, const result *there, const uint8_t *memory)
 {
     if (of->make == make_text || of->make == make_numbers) {
@@ -1108,6 +1212,9 @@ static void is_inside(const call *of, const result *there, const uint8_t *memory
     }
     if (of->make == make_named_object || of->make == make_next_name) {
         expect(of->name, there->named.name[63], 0);
+    }
+    if (of->make == make_first_entries || of->make == make_next_entries) {
+        expect(of->name, there->batch.count <= BATCH, 1);
     }
 }
 

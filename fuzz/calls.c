@@ -19,7 +19,8 @@ enum {
     MOST_CALLS = 400,
     CHECK_EACH = 8,
     KEPT_CLIENTS = 2,
-    MOST_TEXT = 300
+    MOST_TEXT = 300,
+    BATCH = 4
 };
 
 typedef struct side {
@@ -216,8 +217,10 @@ static uint64_t read_all(const lezgauri_handle *segment, const call *it, lezgaur
     lezgauri_place found = {0, 0};
     lezgauri_named named = {{0}, 0, 0};
     lezgauri_bytes bytes = {NULL, 0};
+    lezgauri_entry entries[BATCH];
     int64_t number = 0;
     uint32_t len = 0;
+    size_t count = 0;
     uint32_t got[] = {
         lezgauri_find(segment, names[it->name], it->type, &found),
         lezgauri_find_item(segment, names[it->name], it->type, it->count, &found),
@@ -235,6 +238,7 @@ static uint64_t read_all(const lezgauri_handle *segment, const call *it, lezgaur
         lezgauri_previous_key(segment, place, &it->key, &number),
         lezgauri_next_entry(segment, place, &it->key, &number, &found),
         lezgauri_previous_entry(segment, place, &it->key, &number, &found),
+        lezgauri_next_entries(segment, place, &it->key, entries, it->number % (BATCH + 1), &count),
         lezgauri_content(segment, place, &found),
         lezgauri_item(segment, place, UINT32_MAX, &found),
     };
@@ -242,6 +246,9 @@ static uint64_t read_all(const lezgauri_handle *segment, const call *it, lezgaur
     uint64_t hash = hash_bytes(len, got, sizeof got);
     hash = hash_bytes(hash, &named, sizeof named);
     hash = hash_bytes(hash, &number, sizeof number);
+    for (size_t i = 0; i < count; i++) {
+        hash = hash_bytes(hash, &entries[i].key, sizeof entries[i].key);
+    }
     return hash_bytes(hash, bytes.bytes, bytes.len);
 }
 

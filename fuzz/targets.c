@@ -4,7 +4,7 @@
 #include <stdlib.h>
 #include <string.h>
 
-enum { MOST_OUTPUT = 1 << 16, MOST_BOUND = 20000, MOST_DEPTH = 40, MOST_VALUES = 20000, CONFIGS = 4 };
+enum { MOST_OUTPUT = 1 << 16, MOST_BOUND = 20000, MOST_DEPTH = 40, MOST_VALUES = 20000, CONFIGS = 4, BATCH = 3 };
 
 /* Clients run on one of so many sound images: they take much longer than the checks. */
 enum { FITTING = 8 };
@@ -64,6 +64,8 @@ static void walk_items(walk *of, lezgauri_place place, bool is_list, uint32_t le
 static void walk_keys(walk *of, lezgauri_place place, uint32_t len, uint32_t depth)
 {
     int64_t key = 0, before;
+    lezgauri_entry entries[BATCH];
+    size_t count = 0;
     for (uint32_t i = 0; i < len && of->values < MOST_VALUES; i++) {
         lezgauri_place value, found;
         int64_t last = key, same;
@@ -76,6 +78,12 @@ static void walk_keys(walk *of, lezgauri_place place, uint32_t len, uint32_t dep
         need_ok("get", lezgauri_get(of->segment, place, key, &value));
         need_ok("next_entry", lezgauri_next_entry(of->segment, place, i == 0 ? NULL : &last, &same, &found));
         NEED(same == key && found.at == value.at && found.type == value.type, "an entry isn't a key and its value");
+        if (i % BATCH == 0) {
+            need_ok("next_entries", lezgauri_next_entries(of->segment, place, i == 0 ? NULL : &last, entries, BATCH, &count));
+            NEED(count == (len - i < BATCH ? len - i : BATCH), "a batch has another number of entries");
+        }
+        const lezgauri_entry *each = &entries[i % BATCH];
+        NEED(each->key == key && each->value.at == value.at && each->value.type == value.type, "a batch has another entry");
         walk_value(of, value, depth + 1);
         if (i == len - 1) {
             NEED(lezgauri_next_key(of->segment, place, &key, &last) == LEZGAURI_NO_VALUE,

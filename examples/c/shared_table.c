@@ -27,7 +27,7 @@
 #include <time.h>
 #include <unistd.h>
 
-enum { SIZE = 8192, ENTRIES = 20, READERS = 3 };
+enum { SIZE = 8192, ENTRIES = 20, READERS = 3, BATCH = 16 };
 
 /* The types of the segment. */
 enum { NUMBER, TABLE };
@@ -110,18 +110,22 @@ static void enter(int file, lezgauri_handle *segment)
 static int count(int file, const void *memory)
 {
     lezgauri_handle *segment;
-    lezgauri_place table, value;
-    int64_t key, number, sum = 0;
+    lezgauri_place table;
+    lezgauri_entry entries[BATCH];
+    int64_t number, sum = 0;
     const int64_t *after = NULL;
+    size_t found;
     int values = 0;
     lock(file, LOCK_SH);
     done("read", lezgauri_read(memory, SIZE, &segment, NULL));
     done("find", lezgauri_find(segment, "table", TABLE, &table));
-    while (lezgauri_next_entry(segment, table, after, &key, &value) == LEZGAURI_OK) {
-        done("load", lezgauri_load(segment, value, &number));
-        sum += number;
-        values++;
-        after = &key;
+    while (lezgauri_next_entries(segment, table, after, entries, BATCH, &found) == LEZGAURI_OK && found > 0) {
+        for (size_t i = 0; i < found; i++) {
+            done("load", lezgauri_load(segment, entries[i].value, &number));
+            sum += number;
+            values++;
+        }
+        after = &entries[found - 1].key;
     }
     lezgauri_close(segment);
     lock(file, LOCK_UN);

@@ -129,9 +129,6 @@ class Segment(Objects):
     Segment(image) raises Fault if the image isn't sound, and OutOfMemory if there is no memory for the copy. The image's bytes may
     change while they are copied: the copy is checked."""
 
-    # the image of a segment that is open only for reading
-    _image: Optional[Buffer] = None
-
     def __init__(self, image: Buffer) -> None:
         calls = library()
         address, fault = c_void_p(), CFault()
@@ -204,11 +201,6 @@ class Segment(Objects):
             segment = cls._made(address, held.pop_all())
         segment._image = image
         return segment
-
-    @property
-    def read_only(self) -> bool:
-        """Whether it is open only for reading."""
-        return self._image is not None
 
     def reader(self) -> "Segment":
         """Another segment on the same image, which isn't checked again: for another thread. It is closed by itself.

@@ -45,6 +45,12 @@ class CPlace(ctypes.Structure):
     _fields_ = [("at", c_uint32), ("type", c_uint32)]
 
 
+class CEntry(ctypes.Structure):
+    """lezgauri_entry"""
+
+    _fields_ = [("key", c_int64), ("value", CPlace)]
+
+
 class CNamed(ctypes.Structure):
     """lezgauri_named"""
 
@@ -115,6 +121,7 @@ CALLS = {
     "lezgauri_previous_key": _NEXT_KEY,
     "lezgauri_next_entry": _NEXT_ENTRY,
     "lezgauri_previous_entry": _NEXT_ENTRY,
+    "lezgauri_next_entries": (c_uint32, (*_AT, POINTER(c_int64), POINTER(CEntry), c_size_t, POINTER(c_size_t))),
     "lezgauri_content": _TO_PLACE,
     "lezgauri_construct": (c_uint32, (*_NAME, c_uint32, c_uint32, POINTER(CPlace))),
     "lezgauri_find_or_construct": (c_uint32, (*_NAME, c_uint32, POINTER(CPlace))),

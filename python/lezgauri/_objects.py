@@ -4,6 +4,7 @@ from collections.abc import Mapping
 from ctypes import byref, c_size_t
 from typing import Any, Callable, Iterator, NamedTuple, Optional, Tuple
 
+from ._buffers import Buffer
 from ._errors import Absent, BadArgument, NoValue, OtherType, OutOfRange
 from ._handles import Closeable, handle_of
 from ._library import MOST_TYPES, CFault, CNamed, CPlace, CType, library, refuse
@@ -34,9 +35,17 @@ class Objects(Closeable, Mapping):  # type: ignore[type-arg]
     # the types when they were last read; more may have been added since
     _types: Tuple[Type, ...] = ()
 
+    # the image of a segment that is open only for reading
+    _image: Optional[Buffer] = None
+
     # a segment is equal only to itself
     __eq__ = object.__eq__
     __hash__ = object.__hash__
+
+    @property
+    def read_only(self) -> bool:
+        """Whether it is open only for reading."""
+        return self._image is not None
 
     def _call(self, call: Callable[..., int], *arguments: Any, about: object = None) -> None:
         with handle_of(self, Closeable) as handle:

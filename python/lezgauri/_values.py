@@ -2,15 +2,16 @@
 import array
 import contextlib
 import ctypes
+import itertools
 import operator
-from collections.abc import ItemsView, KeysView, MutableMapping, Sequence
-from ctypes import byref, c_int64, c_uint32
+from collections.abc import ItemsView, KeysView, MutableMapping, Sequence, ValuesView
+from ctypes import byref, c_int64, c_size_t, c_uint32
 from typing import TYPE_CHECKING, Any, Callable, Dict, Iterable, Iterator, List as ListOf, Optional, Tuple, Type as TypeOf, Union
 
 from ._buffers import Buffer, View
 from ._errors import Absent, BadArgument, Frozen, NoValue, OutOfRange
 from ._handles import Closeable, handle_of
-from ._library import CBytes, CPlace, library, refuse
+from ._library import CBytes, CEntry, CPlace, library, refuse
 from .types import Kind, Type
 
 if TYPE_CHECKING:
@@ -24,6 +25,9 @@ Item = Any
 
 _NUMBERS = range(-(2**63), 2**63)
 _INDEXES = range(2**32)
+
+# The entries that a loop over a map gets by one call if the segment is open only for reading.
+_BATCH = 256
 
 
 def _as_key(key: Any) -> int:
@@ -434,6 +438,8 @@ class Keys(KeysView):  # type: ignore[type-arg]
             key = step(key)
 
     def __iter__(self) -> Iterator[int]:
+        if self._map.segment.read_only:
+            return itertools.takewhile(self._has, (key for key, _ in self._map._entries(self._after)))
         return self._steps(self._map._next, self._after)
 
     def __reversed__(self) -> Iterator[int]:
@@ -454,10 +460,21 @@ class Entries(ItemsView):  # type: ignore[type-arg]
         self._map = map
 
     def __iter__(self) -> Iterator[Tuple[int, Item]]:
-        return ((key, view.value) for key, view in self._map._views(library().lezgauri_next_entry))
+        return ((key, view.value) for key, view in self._map._views())
 
     def __reversed__(self) -> Iterator[Tuple[int, Item]]:
-        return ((key, view.value) for key, view in self._map._views(library().lezgauri_previous_entry))
+        return ((key, view.value) for key, view in self._map._steps(library().lezgauri_previous_entry))
+
+
+class Values(ValuesView):  # type: ignore[type-arg]
+    """The values of a map in ascending order of their keys. A loop may change the map: it continues with the next key."""
+
+    def __init__(self, map: "Map") -> None:
+        super().__init__(map)
+        self._map = map
+
+    def __iter__(self) -> Iterator[Item]:
+        return (view.value for _, view in self._map._views())
 
 
 class Map(_Sized, MutableMapping):  # type: ignore[type-arg]
@@ -514,6 +531,10 @@ class Map(_Sized, MutableMapping):  # type: ignore[type-arg]
         """The keys in ascending order with their values, and with `reversed` in descending order."""
         return Entries(self)
 
+    def values(self) -> Values:
+        """The values in ascending order of their keys."""
+        return Values(self)
+
     def __iter__(self) -> Iterator[int]:
         return iter(self.keys())
 
@@ -540,7 +561,23 @@ class Map(_Sized, MutableMapping):  # type: ignore[type-arg]
             return None
         return key.value
 
-    def _views(self, call: Callable[..., int]) -> Iterator[Tuple[int, AnyView]]:
+    def _views(self) -> Iterator[Tuple[int, AnyView]]:
+        """The keys in ascending order with the views of their values."""
+        if self.segment.read_only:
+            return ((key, self.segment._view(place, self._frozen)) for key, place in self._entries(None))
+        return self._steps(library().lezgauri_next_entry)
+
+    def _entries(self, after: Optional[int]) -> Iterator[Tuple[int, CPlace]]:
+        """The keys above another one, or all, with the places of their values. The segment is open only for reading."""
+        entries, count = (CEntry * _BATCH)(), c_size_t(_BATCH)
+        start = None if after is None or after < _NUMBERS[0] else c_int64(min(after, _NUMBERS[-1]))
+        while count.value == _BATCH:
+            self._read(library().lezgauri_next_entries, start, entries, _BATCH, byref(count))
+            for entry in entries[: count.value]:
+                yield entry.key, CPlace(entry.value.at, entry.value.type)
+            start = c_int64(entries[_BATCH - 1].key)
+
+    def _steps(self, call: Callable[..., int]) -> Iterator[Tuple[int, AnyView]]:
         """The keys with the views of their values, each from a call that returns the next entry."""
         key = c_int64()
         start = None
@@ -593,7 +630,7 @@ class Map(_Sized, MutableMapping):  # type: ignore[type-arg]
             self.update(items)
 
     def _plain(self, kept: Optional[Kept]) -> Dict[int, Any]:
-        return {key: view._plain(kept) for key, view in self._views(library().lezgauri_next_entry)}
+        return {key: view._plain(kept) for key, view in self._views()}
 
 
 class Own(Value):

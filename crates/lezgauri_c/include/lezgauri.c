@@ -112,6 +112,8 @@ uint32_t lezgauri_raw_next_entry(const uint8_t *image, size_t len, kept_types *t
                                  int64_t *key, lezgauri_place *value);
 uint32_t lezgauri_raw_previous_entry(const uint8_t *image, size_t len, kept_types *types, uint32_t at, uint32_t type, int64_t from,
                                      int64_t *key, lezgauri_place *value);
+uint32_t lezgauri_raw_next_entries(const uint8_t *image, size_t len, kept_types *types, uint32_t at, uint32_t type, bool is_after,
+                                   int64_t after, lezgauri_entry *entries, size_t room, size_t *count);
 uint32_t lezgauri_raw_content(const uint8_t *image, size_t len, kept_types *types, uint32_t at, uint32_t type,
                               lezgauri_place *content);
 
@@ -1265,6 +1267,23 @@ uint32_t lezgauri_previous_entry(const lezgauri_handle *handle, lezgauri_place m
         return end(handle, lezgauri_raw_last_entry(SEGMENT(handle), map.at, map.type, key, value));
     }
     return end(handle, lezgauri_raw_previous_entry(SEGMENT(handle), map.at, map.type, *before, key, value));
+}
+
+/* *after is read before the entries are written, so it may be one of their keys. */
+uint32_t lezgauri_next_entries(const lezgauri_handle *handle, lezgauri_place map, const int64_t *after, lezgauri_entry *entries,
+                               size_t room, size_t *count)
+{
+    bool are_entries = may_be(entries, room, sizeof *entries, _Alignof(lezgauri_entry));
+    size_t len = are_entries ? room * sizeof *entries : 0;
+    bool is_allowed = are_entries && may_tell(after, _Alignof(int64_t)) && may_return(handle, count, sizeof *count, _Alignof(size_t)) &&
+                      is_outside(handle, entries, len) && !overlap(one(entries, len), one(count, sizeof *count));
+    uint32_t status = begin_read(handle, is_allowed);
+    if (status != LEZGAURI_OK) {
+        return status;
+    }
+    bool is_after = after != NULL;
+    return end(handle, lezgauri_raw_next_entries(SEGMENT(handle), map.at, map.type, is_after, is_after ? *after : 0, or_room(entries), room,
+                                                 count));
 }
 
 /* ---- changing */

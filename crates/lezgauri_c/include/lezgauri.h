@@ -398,6 +398,12 @@ typedef struct lezgauri_named {
     uint32_t count; /* how many values it has, 1 to 65535 */
 } lezgauri_named;
 
+/* An entry of a map: a key, and the place of its value. */
+typedef struct lezgauri_entry {
+    int64_t key;
+    lezgauri_place value;
+} lezgauri_entry;
+
 /*
  * Finds the first value of the object with this name, whose values have this type. LEZGAURI_ABSENT if no object has the name,
  * LEZGAURI_OTHER_TYPE if its values have another type.
@@ -467,6 +473,15 @@ uint32_t lezgauri_next_entry(const lezgauri_handle *handle, lezgauri_place map, 
 /* Like lezgauri_previous_key, and returns the place of the key's value too. */
 uint32_t lezgauri_previous_entry(const lezgauri_handle *handle, lezgauri_place map, const int64_t *before, int64_t *key,
                                  lezgauri_place *value);
+
+/*
+ * The next entries of a map or flat map: those with keys above *after, which need not be a key, or all if `after` is null. They are in
+ * ascending order of the keys, at most `room` of them. *count is how many there are: fewer than `room` only if the map has no more, and 0
+ * if it has none. One search finds the first entry, and each other one is a step from the one before. `after` may point to a key in
+ * `entries`, which may be null if `room` is 0.
+ */
+uint32_t lezgauri_next_entries(const lezgauri_handle *handle, lezgauri_place map, const int64_t *after, lezgauri_entry *entries,
+                               size_t room, size_t *count);
 
 /*
  * The place of the object of an own, or of the frozen object of a shared. LEZGAURI_NO_VALUE if it is null. Nothing in a frozen object may be

@@ -897,7 +897,8 @@ struct key_source {
     }
 };
 
-// The keys of a map in ascending order, each with its value.
+// The keys of a map in ascending order, each with its value. With a handle that is only for reading, a call finds many entries. Any other
+// handle may change the map between two steps, so a call finds one.
 template <class Value, class Handle>
 struct entry_source {
     struct Item {
@@ -905,19 +906,40 @@ struct entry_source {
         Value value;
     };
 
+    static constexpr std::size_t room = std::is_const_v<Handle> ? 32 : 1;
+
     Handle *handle;
     place map;
     bool is_first = true;
+    std::size_t used = room; // of the entries
+    std::size_t count = room;
+    lezgauri_entry entries[room] = {};
+
+    std::uint32_t find(const std::int64_t *after) noexcept
+    {
+        if constexpr (room == 1) {
+            return lezgauri_next_entry(handle, map, after, &entries->key, &entries->value);
+        } else {
+            return lezgauri_next_entries(handle, map, after, entries, room, &count);
+        }
+    }
 
     std::uint32_t next(Item &entry) noexcept
     {
-        place found{};
-        const std::int64_t *after = std::exchange(is_first, false) ? nullptr : &entry.key;
-        const std::uint32_t number = lezgauri_next_entry(handle, map, after, &entry.key, &found);
-        if (number == LEZGAURI_OK) {
-            entry.value = Value(handle, found);
+        if (used == room) {
+            const std::uint32_t number = find(std::exchange(is_first, false) ? nullptr : &entry.key);
+            if (number != LEZGAURI_OK) {
+                return number;
+            }
+            used = 0;
         }
-        return number;
+        if (used == count) {
+            return LEZGAURI_NO_VALUE;
+        }
+        const lezgauri_entry &found = entries[used++];
+        entry.key = found.key;
+        entry.value = Value(handle, found.value);
+        return LEZGAURI_OK;
     }
 };
 
