@@ -214,6 +214,14 @@ static void next_entry(void)
     succeed(lezgauri_next_entry(values, map, &after, &loaded, &place));
 }
 
+static void next_entries(void)
+{
+    lezgauri_entry entries[KEYS];
+    size_t found;
+    succeed(lezgauri_next_entries(values, map, NULL, entries, KEYS, &found));
+    need(found == KEYS, "all entries");
+}
+
 static void put_remove(void)
 {
     succeed(lezgauri_put(values, map, NEW_KEY, &place));
@@ -268,6 +276,7 @@ static const work WORKS[] = {
     {"get", get},
     {"next_key", next_key},
     {"next_entry", next_entry},
+    {"next_entries", next_entries},
     {"put, remove", put_remove},
     {"push_back, pop_back", push_pop},
     {"assign", assign},

@@ -50,12 +50,16 @@ VALUE_WORKS = [
     ("get", None, ("boost-get", "lmdb-get", "sqlite-get")),
     ("next_key", None, ("boost-next", "lmdb-next")),
     ("next_entry", None, ("boost-next", "lmdb-next")),
+    ("next_entries", None, ("boost-next", "lmdb-next")),
     ("put, remove", None, ("boost-put, erase", "lmdb-put, del", "sqlite-insert, delete")),
     ("push_back, pop_back", None, ("boost-push, pop",)),
     ("assign", None, ("boost-assign",)),
     ("text", None, ()),
     ("construct, destroy", None, ("boost-construct, destroy",)),
 ]
+
+# how many entries a work of calls.c reads. Its row is for one entry, as are the peers' works
+ENTRIES = {"next_entries": 100}
 
 # how often a work is repeated to measure its time
 TIMED = 5000
@@ -95,7 +99,9 @@ def main():
             times = least([partial(own_time, command, TIMED) for command in commands], words.time)
             for command, by, time in zip(commands, [*words.library, *peers], times):
                 name = f"{work} ({client})" if client else work
-                row(name, by[-22:], 0 if words.no_count else own_count(command, COUNTED), time)
+                entries = ENTRIES.get(work, 1) if by in words.library else 1
+                count = 0 if words.no_count else own_count(command, COUNTED)
+                row(name, by[-22:], count / entries, time / entries)
 
 
 if __name__ == "__main__":

@@ -6,6 +6,7 @@
 
 static const char *const NAME = "table";
 enum { NUMBER, MAP };
+enum { BATCH = 64 };
 
 static uint8_t *memory;
 static size_t memory_len;
@@ -89,6 +90,24 @@ static void update(const int64_t *keys, long count, int singly)
 }
 
 static int64_t sum_values(long count)
+{
+    int64_t sum = 0;
+    lezgauri_entry entries[BATCH];
+    const int64_t *after = NULL;
+    for (size_t left = (size_t)count, found; left > 0; left -= found) {
+        succeed(lezgauri_next_entries(segment, map, after, entries, left < BATCH ? left : BATCH, &found));
+        need(found > 0, "next_entries");
+        for (size_t i = 0; i < found; i++) {
+            int64_t number;
+            succeed(lezgauri_load(segment, entries[i].value, &number));
+            sum += number;
+        }
+        after = &entries[found - 1].key;
+    }
+    return sum;
+}
+
+static int64_t sum_singly(long count)
 {
     int64_t sum = 0, before = 0;
     for (long i = 0; i < count; i++) {
@@ -191,8 +210,8 @@ static int64_t pass_flat(void)
 }
 
 static const table TABLES[] = {
-    {"lezgauri-tree", 0, build_tree, open_table, look_up, update, sum_values, check, pass_tree, close_table},
-    {"lezgauri-flat", 1, build_flat, open_table, look_up, update, sum_values, check, pass_flat, close_table},
+    {"lezgauri-tree", 0, build_tree, open_table, look_up, update, sum_values, sum_singly, check, pass_tree, close_table},
+    {"lezgauri-flat", 1, build_flat, open_table, look_up, update, sum_values, sum_singly, check, pass_flat, close_table},
 };
 
 int main(int count, char **words)

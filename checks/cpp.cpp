@@ -853,6 +853,38 @@ static void values()
     VALUE(lz::check<Policy>(bytes));
 }
 
+// Compares a range with the entries i and i * i.
+template <class Policy, class Range>
+static void has_squares(Range range, std::int64_t size)
+{
+    std::int64_t next = 0;
+    for (const auto &entry : range) {
+        expect("squares: an entry", entry.key == next && VALUE(entry.value.load()) == next * next);
+        next++;
+    }
+    expect("squares: to the end", next == size && range.why() == lz::fault{} && range.begin() == range.end());
+}
+
+// The entries of a reader are found many at a time: maps have fewer than one call finds, as many, and more.
+template <class Policy>
+static void many_entries()
+{
+    static const lz::type types[] = {lz::type_of(lz::kind::i64), lz::type_of(lz::kind::map, {0}), lz::type_of(lz::kind::flat_map, {0})};
+    for (const int size : {0, 1, 31, 32, 33, 64, 65}) {
+        auto segment = VALUE(lz::create<Policy>(1 << 14));
+        VALUE(segment.add_types(types));
+        for (const std::uint32_t type : {1u, 2u}) {
+            const auto map = VALUE(segment.construct_unique(type));
+            for (std::int64_t key = 0; key < size; key++) {
+                VALUE(VALUE(map.put(key)).store(key * key));
+            }
+            has_squares<Policy>(map.entries(), size);
+            const auto reader = VALUE(lz::read<Policy>(VALUE(segment.image())));
+            has_squares<Policy>(VALUE(reader.find_unique(type)).entries(), size);
+        }
+    }
+}
+
 // ---- refused memory
 
 // Refuses each request for memory of a call in turn: the call is refused with `memory`, or doesn't need it.
@@ -1047,6 +1079,7 @@ static void all()
     conversions<Policy>();
     type_tables<Policy>();
     values<Policy>();
+    many_entries<Policy>();
     moves<Policy, Other>();
     files<Policy>();
     memory<Policy>();

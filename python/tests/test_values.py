@@ -755,6 +755,14 @@ class MapTest(ValueCase):
                 if key == 2:
                     numbers[1] = numbers[5] = 0
             self.assertEqual((seen, numbers), ([1, 2, 3, 5], {1: 0}))
+            for loop, entry in ((numbers.items, lambda key: (key, 10 * key)), (numbers.values, lambda key: 10 * key)):
+                numbers.assign({1: 10, 2: 20, 3: 30})
+                seen = []
+                for each in loop():
+                    seen.append(each)
+                    numbers.pop(2, None)
+                    numbers[4] = 40
+                self.assertEqual(seen, [entry(1), entry(3), entry(4)])
 
     def test_values(self):
         for segment, users in self.maps(USER):
@@ -1037,6 +1045,29 @@ class ReadTest(ValueCase):
                         self.assertEqual((segment.find_unique(t.i64), segment.size, segment.save()), (12, len(image), image))
                         self.assertEqual(list(reversed(segment["list"])), [2, 1])
                         self.assertEqual((segment["tree"].last(), segment["flat"].first()), (1, 3))
+
+    def test_many_entries(self):
+        """Loops over maps with fewer entries than one call returns, as many, and more."""
+        most, pair = lezgauri._values._BATCH, t.struct(t.i64, t.i64)
+        for size in (0, 1, most - 1, most, most + 1, 2 * most, 2 * most + 1):
+            contents = {7 * key: (key, key * key) for key in range(-3, size - 3)}
+            segment = self.made(t.map(pair), t.flat_map(pair), size=1 << 17)
+            for name, kind in (("tree", t.map), ("flat", t.flat_map)):
+                segment.construct(name, kind(pair)).assign(contents)
+            for pairs in self.read(bytes(segment.save())).values():
+                with self.subTest(size=size, type=pairs.type.kind):
+                    self.assertEqual((list(pairs), pairs.plain(), len(pairs)), (list(contents), contents, size))
+                    items, values = list(pairs.items()), list(pairs.values())
+                    self.assertEqual([(key, value.plain()) for key, value in items], list(contents.items()))
+                    self.assertEqual([value.plain() for value in values], list(contents.values()))
+                    self.assertEqual(list(reversed(pairs)), list(contents)[::-1])
+                    for after, before in (
+                        (0, None), (-22, 8), (7 * most - 30, 7 * most), (7 * most - 28, 7 * most + 1), (LEAST, MOST), (LEAST - 1, MOST + 1),
+                        (MOST, None), (MOST + 1, None), (None, LEAST - 1),
+                    ):
+                        keys = pairs.keys(after, before)
+                        expected = [key for key in contents if (after is None or after < key) and (before is None or key < before)]
+                        self.assertEqual((list(keys), len(keys)), (expected, len(expected)))
 
     def test_several(self):
         """Several at once, with views of numbers that aren't copies."""
