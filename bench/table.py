@@ -40,7 +40,7 @@ RATIOS = {"boost-tree": "lezgauri-tree", "boost-flat": "lezgauri-flat"}
 TRANSACTIONS = ("lmdb", "sqlite")
 NO_CHECK = ("lmdb",)
 
-# and those of table.c, which also reads the bytes itself, and sums the values by a call for each key beside one for 64 keys
+# and the tables of table.c, which have two more works
 OURS = ("lezgauri-tree", "lezgauri-flat")
 
 

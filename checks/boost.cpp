@@ -410,6 +410,27 @@ struct Pair {
         }
     }
 
+    // in batches whose size depends on the map's
+    template <class Map>
+    void compare_entries(const Map* it) {
+        lezgauri_entry entries[7];
+        size_t room = 1 + it->size() % 7, used = 0, count = 0;
+        const int64_t* after = nullptr;
+        for (const auto& wanted : *it) {
+            if (used == count) {
+                expect(lezgauri_next_entries(ours.handle, place, after, entries, room, &count) == LEZGAURI_OK && count > 0,
+                       "a batch");
+                used = 0;
+            }
+            expect(entries[used].key == wanted.first, "a key of a batch");
+            expect_number(entries[used].value, wanted.second);
+            after = &entries[used++].key;
+        }
+        expect(used == count, "one more entry in a batch", used, count);
+        expect(lezgauri_next_entries(ours.handle, place, after, entries, room, &count) == LEZGAURI_OK && count == 0,
+               "one more batch");
+    }
+
     template <class Map>
     void compare_keys(const Map* it) {
         int64_t key = 0;
@@ -422,6 +443,7 @@ struct Pair {
             expect_number(value, entry.second);
         }
         expect(lezgauri_next_key(ours.handle, place, after, &key) == LEZGAURI_NO_VALUE, "one more key");
+        compare_entries(it);
     }
 
     void compare_value(size_t count) {
