@@ -475,10 +475,10 @@ uint32_t lezgauri_previous_entry(const lezgauri_handle *handle, lezgauri_place m
                                  lezgauri_place *value);
 
 /*
- * The next entries of a map or flat map: those with keys above *after, which need not be a key, or all if `after` is null. They are in
- * ascending order of the keys, at most `room` of them. *count is how many there are: fewer than `room` only if the map has no more, and 0
- * if it has none. One search finds the first entry, and each other one is a step from the one before. `after` may point to a key in
- * `entries`, which may be null if `room` is 0.
+ * Fills `entries` with the next entries of a map or flat map, in ascending order of the keys, at most `room` of them: those with keys above
+ * *after, which need not be a key, or from the first one on if `after` is null. *count is how many there are: fewer than `room` only if the
+ * map has no more. If it has none, *count is 0 and the call returns LEZGAURI_OK. One search finds the first entry, and each other one is a
+ * step from the one before. `after` may point to a key in `entries`. `entries` may be null if `room` is 0.
  */
 uint32_t lezgauri_next_entries(const lezgauri_handle *handle, lezgauri_place map, const int64_t *after, lezgauri_entry *entries,
                                size_t room, size_t *count);
