@@ -897,8 +897,8 @@ struct key_source {
     }
 };
 
-// The keys of a map in ascending order, each with its value. With a handle that is only for reading, a call finds many entries. Any other
-// handle may change the map between two steps, so a call finds one.
+// The keys of a map in ascending order, each with its value. With a const handle a call finds many entries. Any other handle may change the
+// map between two steps, so a call finds one.
 template <class Value, class Handle>
 struct entry_source {
     struct Item {
