@@ -163,7 +163,7 @@ class HeaderTest(Case):
         "char *": ctypes.c_char_p, "uint8_t": ctypes.c_uint8, "char": ctypes.c_char, "int64_t": ctypes.c_int64,
         "uint32_t *": ctypes.POINTER(ctypes.c_uint32), "int64_t *": ctypes.POINTER(ctypes.c_int64),
         "lezgauri_place": _library.CPlace, "lezgauri_place *": ctypes.POINTER(_library.CPlace),
-        "lezgauri_named *": ctypes.POINTER(_library.CNamed),
+        "lezgauri_named *": ctypes.POINTER(_library.CNamed), "lezgauri_entry *": ctypes.POINTER(_library.CEntry),
     }
 
     def declared(self, text):
