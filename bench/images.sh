@@ -1,6 +1,7 @@
 #!/usr/bin/env bash
-# Measures whole images: runs of an empty client on 1 KiB, 1 MiB and 64 MiB, checks of 64 MiB with few and with many blocks,
-# and for comparison copying and reading a file of 64 MiB.
+# Measures whole images: runs of an empty client on 1 KiB, 1 MiB and 64 MiB, which make a file or find that it has their bytes
+# already, checks of 64 MiB with few and with many blocks, and for comparison copying (also with a sync) and reading a file of
+# 64 MiB.
 #
 #   images.sh SEGTOOL
 #
@@ -12,14 +13,16 @@ here=$(cd "$(dirname "${BASH_SOURCE[0]}")" && pwd)
 work=$(mktemp -d)
 trap 'rm -rf "$work"' EXIT
 
-# prints a row: takes its name, and the command
+# prints a row: takes its name, and the command. Before each round it removes the file NEW, if that is set.
 row() {
   local name=$1
   shift
   printf '%-36s ' "$name"
   for _ in $(seq "$rounds"); do
     python3 - "$@" << 'P'
-import os, subprocess, sys, time
+import contextlib, os, subprocess, sys, time
+with contextlib.suppress(FileNotFoundError, KeyError):
+    os.remove(os.environ["NEW"])
 start = time.perf_counter()
 child = subprocess.Popen(sys.argv[1:], stdout=subprocess.DEVNULL)
 _, status, used = os.wait4(child.pid, 0)
@@ -43,7 +46,8 @@ printf '%-36s %9s %9s %9s %9s %6s\n' work wall user system faults MiB
 client empty 0
 for size in 1024 $((1 << 20)) $((64 << 20)); do
   "$segtool" new "$work/image" "$size" best tree
-  row "run of nothing, $size bytes" "$segtool" run "$work/image" "$work/saved" "$work/empty"
+  NEW=$work/saved row "run of nothing, $size bytes" "$segtool" run "$work/image" "$work/saved" "$work/empty"
+  row "the same, to a file with these bytes" "$segtool" run "$work/image" "$work/saved" "$work/empty"
 done
 row "check, 64 MiB, one gap" "$segtool" check "$work/image"
 client arrays 130
@@ -53,6 +57,7 @@ client nodes 1000000
 "$segtool" new "$work/image" $((64 << 20)) seq flat
 "$segtool" run "$work/image" "$work/small" "$work/nodes" > "$work/printed"
 row "check, 64 MiB, 1,000,000 blocks" "$segtool" check "$work/small"
-row "run of nothing, 1,000,000 blocks" "$segtool" run "$work/small" "$work/saved" "$work/empty"
-row "cp of 64 MiB" cp "$work/image" "$work/saved"
+NEW=$work/saved row "run of nothing, 1,000,000 blocks" "$segtool" run "$work/small" "$work/saved" "$work/empty"
+NEW=$work/saved row "cp of 64 MiB" cp "$work/image" "$work/saved"
+NEW=$work/saved row "cp of 64 MiB, and its sync" sh -c 'cp "$1" "$2" && sync "$2" "${2%/*}"' sh "$work/image" "$work/saved"
 row "cat of 64 MiB" cat "$work/image"
