@@ -1,7 +1,8 @@
-ghost use Rattle.std.specs.Prelude.{◌≡◌, ℕ, ◌+◌, ◌*◌, ◌-◌, ◌≤◌, ◌∷◌, [], length};
+ghost use Rattle.std.specs.Prelude.{◌≡◌, ℕ, ◌+◌, ◌*◌, ◌-◌, ◌≤◌, ◌↔◌, ◌∷◌, [], length, IsTrue, MatchResult};
 ghost use Rattle.seg_spec.specs.Bytes.{signed_long};
 ghost use Rattle.seg_spec.specs.Types.{Form};
 ghost use Rattle.seg_spec.specs.Reads.{keys_at, spaced};
+ghost use Rattle.seg_spec.specs.Value.{IsAscending};
 ghost use Rattle.seg_cells.specs.Places.{object_at};
 ghost use Rattle.seg_check.specs.Turns.{LiesAt};
 ghost use Rattle.seg_check.specs.Resolving.{IsReady, Steps};
@@ -37,22 +38,25 @@ impl TypedImage<'_> {
             return Ok(());
         };
         let start = self.claim_entries(claims, cell, content, count)?;
-        self.entry_keys(content.entry, start, count).check(cell)
+        in_order(self.keys_ascend(content.entry, start, count), cell)
     }
 
-    /// The keys of the entries of a flat map, each of which begins with its key.
-    fn entry_keys(&self, entry: Entry, start: PayloadAt, count: u32) -> Keys
+    /// Whether the keys of the entries of a flat map ascend. Each entry begins with its key.
+    fn keys_ascend(&self, entry: Entry, start: PayloadAt, count: u32) -> bool
         ensures { 8 ≤ entry.size →
-            start + count * entry.size ≤ length self.now.bytes.bytes.now →
-            HasKeys result (keys_at self.now.bytes.bytes.now (spaced start entry.size count)) }
+            start + count * entry.size ≤ length self.now.bytes.bytes.now → IsTrue result
+            ↔ IsAscending (keys_at self.now.bytes.bytes.now (spaced start entry.size count)) }
     {
         let size = entry.size as usize;
         let entries = self.bytes.slice(start as usize, count as usize * size);
         let mut keys = Keys::new();
         for bytes in entries.chunks_exact(size) {
             keys.add(View::new(bytes).get64(0).cast_signed());
+            if !keys.ascend {
+                return false;
+            }
         }
-        keys
+        true
     }
 
     /// Checks a map: claims its nodes, and then checks the tree and the order of its keys.
@@ -100,6 +104,18 @@ fn key(bytes: View, value: ValueAt) -> i64
     bytes.get64(value.wrapping_sub(KEY) as usize).cast_signed()
 }
 
+/// `BadValue` with a map's cell unless its keys ascend.
+fn in_order(ascend: bool, cell: CellAt) -> Result<(), ContentFault>
+    ensures { MatchResult result (λ _. IsTrue ascend)
+        (λ fault. (fault ≡ ContentFault.BadValue cell) × (IsTrue ascend → ⊥)) }
+{
+    if ascend {
+        Ok(())
+    } else {
+        Err(ContentFault::BadValue(cell))
+    }
+}
+
 /// The keys of a map so far: the last one, and whether they ascend.
 #[derive(Clone, Copy)]
 struct Keys {
@@ -143,10 +159,6 @@ impl Keys {
         ensures { (ks : List ℤ) → HasKeys self ks → MatchResult result (λ _. IsAscending ks)
             (λ fault. (fault ≡ ContentFault.BadValue cell) × (IsAscending ks → ⊥)) }
     {
-        if self.ascend {
-            Ok(())
-        } else {
-            Err(ContentFault::BadValue(cell))
-        }
+        in_order(self.ascend, cell)
     }
 }

@@ -1,8 +1,13 @@
 -- The entries of a flat map, read one after the other. Each begins with its key.
-use Rattle.std.proofs.Common.{◌≡◌, ℕ, zero, suc, ◌+◌, ◌*◌, ◌≤◌, ◌<◌, List, ◌++◌, length, take, drop, sym, ap, ◌∙◌, arith, length-append}
+use Rattle.std.proofs.Common.{◌≡◌, ℕ, zero, suc, ◌+◌, ◌*◌, ◌≤◌, ◌<◌, List, ◌++◌, length, take, drop, sym, ap, ◌∙◌, arith, length-append, ℤ, [], ◌∷◌, subst}
 use Rattle.std.proofs.lemmas.List.{take_all, length-take, length-drop}
 use Rattle.std.proofs.Math.Seq.{take-append_seam, drop-append_seam}
-use Rattle.seg_spec.specs.Bytes.{slice, long}
+use Rattle.seg_spec.specs.Bytes.{slice, long, signed, signed_long}
+use Rattle.seg_spec.specs.Reads.{spaced, keys_at}
+use Rattle.seg_spec.specs.Value.{IsAscending}
+use Rattle.seg_check.specs.Keys.{HasKeys}
+use Rattle.seg_check.specs.declared.maps.Keys.{Keys}
+use Rattle.seg_check.proofs.Contents.AscendingKeyLaws.{keys_more, ascend_front}
 use Rattle.seg_spec.proofs.BytesLaws.{length-slice, number-slice}
 use Rattle.seg_spec.proofs.SliceLaws.{slice-slice}
 
@@ -72,3 +77,19 @@ unread_none bytes rest p size n i r short = go r.left r.whole r.inside r.rest_is
     go (suc m) whole inside rest_is =
         let long_is = ap length rest_is ∙ length-slice bytes (p + i * size) (suc m * size) inside in
         absurd (omega (arith, long_is, short))
+
+-- the next key was added to those before
+pub has_next : (bytes rest entry after : List ℕ) (p size n i : ℕ) (key : ℤ) (keys : Keys) → 8 ≤ size → Unread bytes rest p size n i → rest ≡ entry ++ after → length entry ≡ size → key ≡ signed_long entry 0
+    → HasKeys keys (keys_at bytes (spaced p size i) ++ key ∷ []) → Unread bytes after p size n (i + 1) × HasKeys keys (keys_at bytes (spaced p size (i + 1)))
+has_next bytes rest entry after p size n i key keys some unread parts len key_is has =
+    let next = unread_next bytes rest entry after p size n i some unread parts len in
+    let same : key ≡ signed_long bytes (p + i * size) = key_is ∙ ap signed next.1 in
+    (next.0, subst (λ ks. HasKeys keys ks) (sym (keys_more bytes p size i)) (subst (λ (k : ℤ). HasKeys keys (keys_at bytes (spaced p size i) ++ k ∷ [])) same has))
+
+-- the first of ascending keys ascend
+pub first_ascend : (bytes : List ℕ) (p size i left : ℕ) → IsAscending (keys_at bytes (spaced p size (i + left))) → IsAscending (keys_at bytes (spaced p size i))
+first_ascend bytes p size i zero a = let here : i + 0 ≡ i = omega arith in subst (λ n. IsAscending (keys_at bytes (spaced p size n))) here a
+first_ascend bytes p size i (suc left) a =
+    let more : i + suc left ≡ (i + left) + 1 = omega arith in
+    first_ascend bytes p size i left (ascend_front (keys_at bytes (spaced p size (i + left))) (signed_long bytes (p + (i + left) * size))
+    (subst IsAscending (ap (λ n. keys_at bytes (spaced p size n)) more ∙ keys_more bytes p size (i + left)) a))

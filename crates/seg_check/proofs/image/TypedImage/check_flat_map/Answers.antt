@@ -4,12 +4,14 @@ use Rattle.seg_spec.specs.Pointer.{target}
 use Rattle.seg_spec.specs.Types.{size}
 use Rattle.seg_spec.specs.Reads.{count_at, keys_at, spaced}
 use Rattle.seg_cells.specs.Places.{object_at}
-use Rattle.seg_check.specs.Keys.{HasKeys}
+use Rattle.std.specs.Prelude.{IsTrue, ◌↔◌}
+use Rattle.seg_spec.specs.Value.{IsAscending}
 use Rattle.seg_check.specs.Resolving.{Steps}
 use Rattle.seg_check.proofs.Queue.QueueStepLaws.{steps_refused}
 use Rattle.seg_check.proofs.Blocks.CellClaimLaws.{ready_live}
 use Rattle.seg_check.proofs.Blocks.LackingBlockLaws.{ready_allocated}
 use Rattle.seg_check.proofs.Contents.BufferLaws.{counted_none, counted_some, counted_names}
+use Rattle.seg_check.proofs.Contents.AscendingKeyLaws.{order_told}
 use Rattle.seg_check.proofs.Contents.FlatMapLaws.{flat_nothing, flat_counted, flat_can, flat_steps, flat_inside, flat_counted_lack, flat_lacks}
 use Rattle.seg_check.proofs.image.TypedImage.check_flat_map.Goals as goal
 
@@ -60,7 +62,7 @@ returns-clause-steps g c = λ T U by ready lies.
     let n_is = counted_some at (count_at bytes at) c.in-Some.count (target bytes at) counts in
     let claimed = c.in_ok-start.ensures.claimed (ready_live bytes table old ready) in
     let each : c.args.content.now.entry.size ≡ 8 + size table U = by.content_of.entry_is.size_is in
-    let has = subst (λ step. HasKeys c.entry_keys.result (keys_at bytes (spaced p step c.in-Some.count))) each (c.entry_keys.ensures (omega (arith, each))
+    let ascends = subst (λ step. IsTrue c.keys_ascend.result ↔ IsAscending (keys_at bytes (spaced p step c.in-Some.count))) each (c.keys_ascend.ensures (omega (arith, each))
     (flat_inside bytes table at T U c.args.content.now by old c.claim_entries.new.claims c.in-Some.count p ready claimed)) in
-    flat_steps bytes table at T U c.args.content.now by {A = Unit {0}} old c.claim_entries.new.claims c.in-Some.count p c.check.result ready lies n_is claimed
-    (c.check.ensures (keys_at bytes (spaced p (8 + size table U) c.in-Some.count)) has)
+    flat_steps bytes table at T U c.args.content.now by {A = Unit {0}} old c.claim_entries.new.claims c.in-Some.count p c.in_order.result ready lies n_is claimed
+    (order_told (keys_at bytes (spaced p (8 + size table U) c.in-Some.count)) c.keys_ascend.result at c.in_order.result ascends c.in_order.ensures)
