@@ -211,11 +211,11 @@ static span image_at(const void *at, size_t len)
     return one(at, len < MOST_IMAGE ? len : MOST_IMAGE);
 }
 
-/* Without branches: a run compares up to 25 pairs of spans. */
 static bool overlap(span a, span b)
 {
-    uintptr_t distance = (uintptr_t)b.at - (uintptr_t)a.at;
-    return ((distance < a.len) & (b.len > 0)) | ((0 - distance < b.len) & (a.len > 0));
+    uintptr_t start = (uintptr_t)a.at;
+    uintptr_t other = (uintptr_t)b.at;
+    return a.len > 0 && b.len > 0 && (start < other ? other - start < a.len : start - other < b.len);
 }
 
 /* Whether a span overlaps none of `count` others. */
