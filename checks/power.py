@@ -97,6 +97,8 @@ CASES = [
     Case(["shrink", "large.image"], "large.image"),
     Case(["upgrade", "counter.image"], "counter.image"),
     Case(["asm", "increment.text", "fresh.client"], "fresh.client"),
+    # the file has these bytes already
+    Case(["asm", "increment.text", "increment.client"], "increment.client"),
     Case(["asm", "increment.text", "fill.client"], "fill.client"),
     Case(["map", "large.image", "--svg", "fresh.svg"], "fresh.svg"),
     Case(["map", "counter.image", "--svg", "picture.svg"], "picture.svg"),
