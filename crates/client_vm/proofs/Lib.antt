@@ -1,7 +1,6 @@
 mod Versions
 mod MovesLaws
 mod NumberLaws
-mod OpenerLaws
 mod TextLaws
 mod PartLaws
 mod ObjectLaws

@@ -76,6 +76,19 @@ no_pointers (Some (Form.own U)) h = absurd (cc)
 no_pointers (Some (Form.shared U)) h = absurd (cc)
 no_pointers (Some (Form.struct Us)) h = absurd (cc)
 
+-- a pointer's type has no fields
+pub one_cell : (table : Table) (o : Option Form) → cells_of o ≡ cells.Pointer → (length (fields_by table o) ≡ 0) × (has_cells o ≡ true)
+one_cell table None is = absurd (cc)
+one_cell table (Some Form.i64) is = absurd (cc)
+one_cell table (Some (Form.struct Us)) is = absurd (cc)
+one_cell table (Some Form.str) is = (refl, refl)
+one_cell table (Some (Form.vec U)) is = (refl, refl)
+one_cell table (Some (Form.list U)) is = (refl, refl)
+one_cell table (Some (Form.flat_map U)) is = (refl, refl)
+one_cell table (Some (Form.map U)) is = (refl, refl)
+one_cell table (Some (Form.own U)) is = (refl, refl)
+one_cell table (Some (Form.shared U)) is = (refl, refl)
+
 module _ (table : Table) (valid : IsTable table) (T : ℕ) where
   pub record IsStruct : Type 0 where
     pub parts : List ℕ

@@ -115,7 +115,12 @@ fn set_fields<A: Allocator>(w: &mut Window<A>, types: &TypeTable, place: Place)
     }
     for index in 0..fields {
         if let Some(field) = types.field(place.type_id, index) {
-            set_fields(w, types, place.part(field));
+            let part = place.part(field);
+            if types.field_count(part.type_id) == 0 {
+                set_cell(w, types, part);
+            } else {
+                set_fields(w, types, part);
+            }
         }
     }
 }

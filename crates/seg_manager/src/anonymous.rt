@@ -14,6 +14,8 @@ use std::alloc::Allocator;
 impl<F: Fit, A: Allocator> Segment<F, A> {
     /// Makes an object with the default value of a type, and returns the value's position. `BadAlloc` if there is no
     /// room; then nothing changes.
+    // Inlined: a call would return the position through memory.
+    #[inline(always)]
     pub fn new_anonymous(&mut self, t: TypeId) -> Result<PayloadAt, Code>
         ensures window { KeepsHost self.old.window self.new.window }
         ensures types { self.new.types ≡ self.old.types }

@@ -1,5 +1,6 @@
 -- A flat map in memory: its entries lie in the segment, and read as its keys and values.
-use Rattle.std.proofs.Common.{◌≡◌, ℕ, zero, suc, ◌+◌, ◌-◌, ◌*◌, ◌%◌, ◌^◌, ◌<◌, ◌≤◌, min, ◌⊎◌, inl, inr, ℤ, ◌<ℤ◌, List, [], ◌∷◌, length, take, map, Option, Some, None, Result, Ok, Err, MatchResult, IfOk, IfErr, refl, sym, ap, ◌∙◌, subst, arith}
+use Rattle.std.proofs.Common.{◌≡◌, ℕ, zero, suc, ◌+◌, ◌-◌, ◌*◌, ◌%◌, ◌^◌, ◌<◌, ◌≤◌, min, ◌⊎◌, inl, inr, ℤ, ◌<ℤ◌, List, []}
+use Rattle.std.proofs.Common.{◌∷◌, length, take, map, Option, Some, None, Result, Ok, Err, MatchResult, IfOk, IfErr, refl, sym, ap, ◌∙◌, subst, arith}
 use Rattle.std.specs.Prelude.{slice_get, IsErr}
 use Rattle.std.proofs.Math.Nat.{mul-le-mul_left, mul-le-mul_right}
 use Rattle.std.proofs.lemmas.Bool.{cases_lt, false≢true}
@@ -30,7 +31,8 @@ use Rattle.seg_cells.specs.Entries.{IsEntryOf}
 use Rattle.seg_cells.specs.declared.entry.Entry.{Entry}
 use Rattle.seg_map.specs.declared.key_value.KeyValue.{KeyValue}
 use Rattle.seg_map.specs.Maps.{FindsEntry, value_of, first_of, last_of, keys_above, lower_keys}
-use Rattle.seg_map.proofs.KeyLaws.{Parted, parted_at, parted_front, parted_after, found_place, missing_place, missing_below, place_below, found_next, missing_next, parted_found, parted_missing, get_take, index_low, found_lower, missing_lower}
+use Rattle.seg_map.proofs.KeyLaws.{Parted, parted_at, parted_front, parted_after, found_place, missing_place, missing_below, place_below}
+use Rattle.seg_map.proofs.KeyLaws.{found_next, missing_next, parted_found, parted_missing, get_take, index_low, found_lower, missing_lower}
 
 -- ---- results
 

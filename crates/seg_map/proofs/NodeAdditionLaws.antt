@@ -29,7 +29,8 @@ use Rattle.seg_spec.proofs.Tables.TypeSizeLaws.{size-form}
 use Rattle.seg_spec.proofs.Heap.BlockFrameLaws.{kept_twice, around_twice, around_kept}
 use Rattle.seg_spec.proofs.Values.PlaceWriteLaws.{home_live, owned_live, owned_other}
 use Rattle.seg_spec.proofs.Values.CallPlaceLaws.{same_place}
-use Rattle.seg_spec.proofs.Values.PlaceFrameLaws.{each_map, each_of_map, each_weaker, each_both, each_left, each_right, signed_long-same, cell-target, cell-count, nodes-same, shorter, IsTree-same, SamePlace, Holds-kept, HoldsEach-kept, PersistEach-kept}
+use Rattle.seg_spec.proofs.Values.PlaceFrameLaws.{each_map, each_of_map, each_weaker, each_both, each_left, each_right, signed_long-same, cell-target}
+use Rattle.seg_spec.proofs.Values.PlaceFrameLaws.{cell-count, nodes-same, shorter, IsTree-same, SamePlace, Holds-kept, HoldsEach-kept, PersistEach-kept}
 use Rattle.seg_spec.proofs.Heap.LiveBlockLaws.{times-append, times-same, times-other, times-more, there, each_there, LiesIn, live-lie, live-once}
 use Rattle.seg_rbtree.specs.declared.path.Path.{Path}
 use Rattle.seg_rbtree.specs.Ways.{LeadsTo}

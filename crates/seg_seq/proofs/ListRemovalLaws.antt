@@ -20,7 +20,8 @@ use Rattle.seg_spec.proofs.Values.PathSplitLaws.{nth-append}
 use Rattle.seg_seq.specs.Rings.{AreSpread, HasRing, Relinks}
 use Rattle.seg_seq.specs.Lists.{MovesItems, without_index, RemovesItem, LosesItem}
 use Rattle.seg_seq.proofs.ListNodeLaws.{values_in, value_in, value_at_index, ListOf, list_of, opened_of, opens_list, leads_on, item_leads, index_front, index_after, list_parts}
-use Rattle.seg_seq.proofs.NodeRemovalLaws.{SplitAt, split_at, remove_nth-append, dropped_spread, item_stands, item_beside, two_heap, node_live_still, list_new, new_nodes, dropped_blocks, dropped, lefts_lead, rights_lead, lefts_stay, rights_stay}
+use Rattle.seg_seq.proofs.NodeRemovalLaws.{SplitAt, split_at, remove_nth-append, dropped_spread, item_stands, item_beside, two_heap, node_live_still}
+use Rattle.seg_seq.proofs.NodeRemovalLaws.{list_new, new_nodes, dropped_blocks, dropped, lefts_lead, rights_lead, lefts_stay, rights_stay}
 
 -- ---- lists of nodes
 

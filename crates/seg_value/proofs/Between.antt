@@ -34,7 +34,8 @@ use Rattle.seg_spec.proofs.Values.CallPlaceLaws.{Frames, frames_twice, stands_af
 use Rattle.seg_spec.proofs.Values.BufferLaws.{HoldsEntries, Buffered, buffered, holds_buffered, parts_stay}
 use Rattle.seg_spec.proofs.Values.PersistenceLaws.{persist_then, parts_around, parts_first}
 use Rattle.seg_value.proofs.Inside.{changes_twice, wrote_heap, wrote_live, wrote_ownable, wrote_other, wrote_block, frames_beside, frames_around}
-use Rattle.seg_value.proofs.Runs.{Run, run_values, run_long, runs_joined, run_kept, run_stays, run_persists, run_paths, run_moved, parts, joined, alone, keys_long, the_one, insert_between, remove_between, insert_key, remove_key, ascending_after, ascending_without}
+use Rattle.seg_value.proofs.Runs.{Run, run_values, run_long, runs_joined, run_kept, run_stays, run_persists, run_paths, run_moved, parts}
+use Rattle.seg_value.proofs.Runs.{joined, alone, keys_long, the_one, insert_between, remove_between, insert_key, remove_key, ascending_after, ascending_without}
 use Rattle.seg_cells.proofs.Shifts.{moved_changes}
 
 both : (ks ls : List ℤ) (us ws : Values) → Map ks us ≡ Map ls ws → (ks ≡ ls) × (us ≡ ws)

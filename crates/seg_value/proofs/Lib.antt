@@ -6,6 +6,7 @@ pub mod UnusedEntryLaws
 pub mod UncoupleLaws
 pub mod WaitingBlockLaws
 pub mod WaitingOpenLaws
+pub mod ObjectOpenLaws
 pub mod Turns
 pub mod ClearLaws
 pub mod BufferCutLaws

@@ -50,6 +50,8 @@ impl<F: Fit, A: Allocator> Heap<F, A> {
 
     /// Allocates a block for one entry, with the default of its value. Returns the position of its payload. `BadAlloc`
     /// if no free block is large enough; then nothing changes.
+    // Inlined: a call would pass the layout through memory.
+    #[inline(always)]
     pub fn new_block(&mut self, content: &Content) -> Result<PayloadAt, Code>
         ensures window { KeepsHost self.old.window self.new.window }
         ensures types { self.new.types ≡ self.old.types }

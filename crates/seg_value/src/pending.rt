@@ -21,8 +21,8 @@ ghost use Rattle.seg_cells.specs.Places.{place_of, object_at};
 ghost use Rattle.seg_value.specs.Waiting.{AddsWaiting, OpensPending, links_of};
 
 use crate::heap::Heap;
-use seg_block::{Fit, LINK, PayloadAt, Tag, UNIT, block_of, link, tag_word};
-use seg_cells::{CellAt, Content, Entry, Held, PREVIOUS, Place, Shape};
+use seg_block::{Fit, Kind, LINK, PayloadAt, Tag, UNIT, block_of, link, tag_word};
+use seg_cells::{CellAt, Cells, Content, Entry, Held, PREVIOUS, Place, Shape};
 use std::alloc::Allocator;
 
 /// The offset of the pointer to the right child in a map's node, in bytes.
@@ -91,7 +91,12 @@ impl Pending {
         }
         for index in 0..fields {
             if let Some(field) = heap.types().field(place.type_id, index) {
-                self.add_value(heap, place.part(field));
+                let part = place.part(field);
+                match heap.cells(part.type_id) {
+                    Cells::Number => {}
+                    Cells::Pointer => self.add_cell(heap, part),
+                    Cells::Fields => self.add_value(heap, part),
+                }
             }
         }
     }
@@ -143,6 +148,15 @@ impl Pending {
         let Some(tag) = Tag::read(tag_word(heap.window(), block_of(payload))) else {
             return;
         };
+        // as its content below would show, in a third of the instructions
+        if tag.kind == Kind::Object {
+            let value = Place {
+                at: payload,
+                type_id: tag.type_id,
+            };
+            self.add_value(heap, value);
+            return;
+        }
         let Some(content) = Content::of_block(heap.types(), tag) else {
             return;
         };

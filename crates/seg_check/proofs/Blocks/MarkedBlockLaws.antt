@@ -10,7 +10,8 @@ use Rattle.seg_spec.proofs.Heap.LiveBlockLaws.{times-same, times-other, times-ap
 use Rattle.seg_check.specs.declared.marks.Mark.{Mark}
 use Rattle.seg_check.specs.declared.marks.Mark.TheVariants.{Inside, Free, Live, Claimed, Named}
 use Rattle.seg_check.specs.declared.marks.Waiting.{Waiting}
-use Rattle.seg_check.specs.Marks.{Known, known_of, nothing_known, is_allocated, is_unclaimed, is_free, is_named, allocated_from, unclaimed_from, free_from, named_from, HasNoneNamed, Within, IsUnit, IsMarked, KeepsOtherBlocks, AddsBlock, ClaimsAll}
+use Rattle.seg_check.specs.Marks.{Known, known_of, nothing_known, is_allocated, is_unclaimed, is_free, is_named, allocated_from, unclaimed_from}
+use Rattle.seg_check.specs.Marks.{free_from, named_from, HasNoneNamed, Within, IsUnit, IsMarked, KeepsOtherBlocks, AddsBlock, ClaimsAll}
 use Rattle.seg_check.specs.Naming.{ClaimsFrozen}
 use Rattle.seg_check.proofs.Blocks.MarkLaws.{bit, one, looked, no_unit, set_other, set_same, unit_of, one_more, none_in, few, after_none}
 use Rattle.seg_check.proofs.SameLengthLaws.{same_length}

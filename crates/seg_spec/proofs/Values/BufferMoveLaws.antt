@@ -30,7 +30,8 @@ use Rattle.seg_spec.proofs.Values.CellChangeLaws.{ChangesOnly-none, ChangesOnly-
 use Rattle.seg_spec.proofs.Values.PlaceWriteLaws.{home_live, owned_live, owned_other, place_within, live_then, whole_then}
 use Rattle.seg_spec.proofs.Values.CallPlaceLaws.{Frames, same_place, marked_home, beside_home, written_home, marked_kept, frames_twice, marked_live, marked_counts, marked_block, marked_stands, marked_frames, unowned}
 use Rattle.seg_spec.proofs.Values.CallPlaceLaws.{beside_live, beside_stands, beside_place, beside_frames, beside_block, written_stands, written_frames, left_stands, left_place, left_frames, left_kept, changes_of}
-use Rattle.seg_spec.proofs.Values.BufferLaws.{HoldsEntries, Buffered, buffered, holds_buffered, MovesEntries, entry_places, entries_moved, entries_persist, entries_changes, entries_stay, entries_kept, entries_none, no_places, all_entries_stay, each_entry_persists}
+use Rattle.seg_spec.proofs.Values.BufferLaws.{HoldsEntries, Buffered, buffered, holds_buffered, MovesEntries, entry_places, entries_moved}
+use Rattle.seg_spec.proofs.Values.BufferLaws.{entries_persist, entries_changes, entries_stay, entries_kept, entries_none, no_places, all_entries_stay, each_entry_persists}
 use Rattle.seg_spec.proofs.Values.PersistenceLaws.{persist_then}
 
 smaller_block : (bytes : List ℕ) (p tag n m : ℕ) → m ≤ n → IsBlock bytes p tag n → IsBlock bytes p tag m

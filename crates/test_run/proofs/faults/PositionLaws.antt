@@ -13,7 +13,8 @@ use Rattle.seg_spec.specs.Faulty.{HasFront}
 use Rattle.seg_spec.specs.Fixtures.{counter, two_owners}
 use Rattle.seg_raw.specs.declared.fault.Fault.TheVariants as fault
 use Rattle.seg_check.specs.Turns.{LiesAt, in_block, by_name, places_in}
-use Rattle.seg_check.specs.Positions.{PointsTo, IsBlockFor, HasNodes, IsEntryAt, MustPointTo, to_entries, to_index_node, to_unique, in_value, in_node, entry_room, LacksBlockAt, lacks_block, lacks_object, no_name, as_entry, in_cell, IsFaultAt}
+use Rattle.seg_check.specs.Positions.{PointsTo, IsBlockFor, HasNodes, IsEntryAt, MustPointTo, to_entries, to_index_node, to_unique, in_value}
+use Rattle.seg_check.specs.Positions.{in_node, entry_room, LacksBlockAt, lacks_block, lacks_object, no_name, as_entry, in_cell, IsFaultAt}
 use Rattle.seg_check.proofs.Blocks.LackingBlockLaws.{null_points}
 use Rattle.test_definitions.proofs.WorkedImages.ImageEvaluationLaws.{live_evaluated, one_type-valid, all_old, numbers-valid, numbers-old}
 use Rattle.test_definitions.proofs.WorkedImages.SoundImages.{counter_tiles}

@@ -14,7 +14,8 @@ use Rattle.seg_check.proofs.Queue.QueueStepLaws.{refuses_map}
 use Rattle.seg_check.proofs.Objects.NamedObjectLaws.{named_can, name_long, entry_advance, entry_names, one_name}
 use Rattle.seg_check.specs.Positions.{as_entry, LacksAt}
 use Rattle.seg_check.proofs.image.TypedImage.check_entry.Goals as goal
-use Rattle.seg_check.proofs.image.TypedImage.check_entry.Goals.{then-entry-eq0-via-then-entry-eq0, then-entry-eq0-via-else-entry-eq0+then-len-eq0, then-entry-eq0-via-else-entry-eq0+else-len-eq0+then-len-gt-MAX_NAME, then-entry-eq0-via-else-entry-eq0+else-len-eq0+else-len-gt-MAX_NAME+then-entry-ne0, else-is_before-via-then-is_before+else-is_printable, else-is_before-via-else-is_before}
+use Rattle.seg_check.proofs.image.TypedImage.check_entry.Goals.{then-entry-eq0-via-then-entry-eq0, then-entry-eq0-via-else-entry-eq0+then-len-eq0, then-entry-eq0-via-else-entry-eq0+else-len-eq0+then-len-gt-MAX_NAME}
+use Rattle.seg_check.proofs.image.TypedImage.check_entry.Goals.{then-entry-eq0-via-else-entry-eq0+else-len-eq0+else-len-gt-MAX_NAME+then-entry-ne0, else-is_before-via-then-is_before+else-is_printable, else-is_before-via-else-is_before}
 
 -- the fields of an entry
 record Says (bytes : List ℕ) (at : ℕ) (entry : NameEntry) : Type 0 where

@@ -13,7 +13,8 @@ use Rattle.seg_check.proofs.Blocks.CellClaimLaws.{ready_live}
 use Rattle.seg_check.proofs.Blocks.LackingBlockLaws.{ready_allocated}
 use Rattle.seg_check.proofs.Contents.NodeLaws.{claimed_ready}
 use Rattle.seg_check.proofs.Contents.BufferLaws.{blocks_none, blocks_some, blocks_names}
-use Rattle.seg_check.proofs.Contents.ListLaws.{walked_first, walked_more, walked_live, ring_advance, ring_nothing, ring_counted, ring_counted_lack, ring_lacks, first_lacks, last_link, node_lacks, first_can, ring_closed, next_can, owner_claimed, owner_can, first_low, next_low}
+use Rattle.seg_check.proofs.Contents.ListLaws.{walked_first, walked_more, walked_live, ring_advance, ring_nothing, ring_counted, ring_counted_lack, ring_lacks, first_lacks}
+use Rattle.seg_check.proofs.Contents.ListLaws.{last_link, node_lacks, first_can, ring_closed, next_can, owner_claimed, owner_can, first_low, next_low}
 use Rattle.seg_check.proofs.image.TypedImage.check_list.Goals as goal
 use Rattle.seg_check.proofs.image.TypedImage.check_list.Goals.{then-is_linked, else-is_linked, then-eq, else-eq, else-is_linked-2-via-then-is_linked-2+else-is_closed, else-is_linked-2-via-else-is_linked-2}
 

@@ -21,7 +21,8 @@ use Rattle.seg_check.proofs.Contents.BufferLaws.{blocks_none, blocks_some, block
 use Rattle.seg_check.proofs.Blocks.LackingBlockLaws.{ready_allocated}
 use Rattle.seg_check.proofs.WalkStateLaws.{Followed, follow_start, steps_on, moves_on}
 use Rattle.seg_check.proofs.PlacedWalkLaws.{placed_link}
-use Rattle.seg_check.proofs.Contents.MapLaws.{Traced, traced_start, tree_nothing, tree_counted, tree_counted_lack, traced_ready, traced_lacks, node_lacks, traced_refused, traced_can, traced_steps, traced_enter, traced_pass, traced_live, owned_node, owned_can, node_key, ok_was, err_was}
+use Rattle.seg_check.proofs.Contents.MapLaws.{Traced, traced_start, tree_nothing, tree_counted, tree_counted_lack, traced_ready, traced_lacks, node_lacks, traced_refused}
+use Rattle.seg_check.proofs.Contents.MapLaws.{traced_can, traced_steps, traced_enter, traced_pass, traced_live, owned_node, owned_can, node_key, ok_was, err_was}
 use Rattle.seg_check.proofs.image.TypedImage.check_map.Goals as goal
 
 -- the cell's pointer isn't null

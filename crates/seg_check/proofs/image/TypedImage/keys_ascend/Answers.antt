@@ -43,7 +43,8 @@ loop-bytes-preserved c =
       λ some inside.
           let so_far = was.5 some inside in
           let i = so_far.0 in
-          let next = has_next bytes _ c.in-Some.bytes.now (chunks_exact_rest c.next.new.self) p size c.args.count i _ c.add.new.self some so_far.1 steps.1.0 (steps.1.1 ∙ was.2) key (c.add.ensures (keys_at bytes (spaced p size i)) so_far.2) in
+          let add = c.add.ensures (keys_at bytes (spaced p size i)) so_far.2 in
+          let next = has_next bytes _ c.in-Some.bytes.now (chunks_exact_rest c.next.new.self) p size c.args.count i _ c.add.new.self some so_far.1 steps.1.0 (steps.1.1 ∙ was.2) key add in
           (i + 1, next.0, next.1),
     )
 

@@ -1,10 +1,13 @@
-use Rattle.std.proofs.Common.{◌≡◌, [], ◌++◌, Some, None, refl, sym, ap, ◌∙◌, subst, arith}
+use Rattle.std.proofs.Common.{rules, ◌≡◌, [], ◌++◌, Some, None, refl, sym, ap, ◌∙◌, subst, arith}
 use Rattle.seg_spec.specs.Heap.{tag_at}
-use Rattle.seg_spec.specs.Block.{block_of}
+use Rattle.seg_spec.specs.Block.{block_of, tag_of}
 use Rattle.seg_spec.specs.Window.{Placement}
 use Rattle.seg_spec.proofs.Heap.LiveBlockLaws.{times-append}
 use Rattle.seg_spec.proofs.Deallocation.DestructionLaws.{same_adds, awaits_names}
+use Rattle.seg_block.specs.Tags.{kind_of}
+use Rattle.seg_block.specs.declared.tag.Kind.TheVariants as kind
 use Rattle.seg_cells.specs.Contents.{OfBlock}
+use Rattle.seg_value.proofs.ObjectOpenLaws.{object_opened}
 use Rattle.seg_value.proofs.WaitingOpenLaws.{parted, some_content, unread, links_fit, inside_links, links_waiting, all_added}
 use Rattle.seg_spec.proofs.WindowLaws.{bytes_of}
 use Rattle.seg_value.proofs.pending.Pending.open.Goals as goal
@@ -57,3 +60,13 @@ returns-clause-opened g c = λ xs ns goes allocator ys names kept theirs final v
           c.entry_count-entries.ensures.buffer c.entry_count-entries.ensures.one
           (λ h. let e = c.add_entries.ensures.bytes h in (bytes_of c.add_entries.new.heap.window c.add_links.new.heap.window e.0, e.1)) c.add_entries.ensures.added;
     }
+
+pub returns-then-eq-clause-opened : goal.returns-then-eq-clause-opened
+returns-then-eq-clause-opened g c xs ns goes =
+    let heap = c.args.heap.now in
+    let tag = c.in-Some.tag in
+    let word_is : c.tag_word.result ≡ tag_at heap.window.bytes (block_of c.args.payload) =
+    c.tag_word.ensures ∙ ap (tag_at c.window.result.now.bytes) c.block_of.ensures ∙ ap (λ (r : Placement). tag_at r.bytes (block_of c.args.payload)) c.window.ensures in
+    let is_object : tag.kind ≡ kind.Object = search rules in
+    let object_word = sym word_is ∙ c.in-Some.ensures.spelled ∙ ap (λ k. tag_of (kind_of k) tag.type_id) is_object in
+    object_opened heap.window.bytes heap.types c.args.payload tag.type_id xs ns c.add_value.new.heap.window.bytes c.args.self.now.first c.add_value.new.self.first object_word goes c.add_value.ensures.added
