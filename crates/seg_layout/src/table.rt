@@ -140,13 +140,13 @@ impl TypeTable {
         ensures field { slice_get (fields_of self.now t) index ≡ map_option cell_of result }
         ensures before { IfSome result (λ cell. cell.type_id < t) }
     {
-        let kind = self.kind(t)?;
-        let Type::Struct(fields) = kind else {
+        let entry = self.entries.get(t as usize)?;
+        let Type::Struct(fields) = &entry.kind else {
             return None;
         };
         let place = index as usize;
         let type_id = fields.get(place)?;
-        let from = Entry::total(&self.entries, &fields.as_slice()[..place]);
+        let from = u32::from(entry.starts[place]);
         Some(Cell { from, type_id })
     }
 
