@@ -431,6 +431,21 @@ struct Pair {
                "one more batch");
     }
 
+    // in place: 8 bytes for each key and for each number
+    template <class Map>
+    void compare_pairs(const Map* it) {
+        lezgauri_bytes pairs = {nullptr, 0};
+        expect(lezgauri_pairs(ours.handle, place, &pairs) == LEZGAURI_OK && pairs.len == 16 * it->size(), "pairs", pairs.len,
+               16 * it->size());
+        const uint8_t* at = pairs.bytes;
+        for (const auto& wanted : *it) {
+            int64_t pair[2];
+            memcpy(pair, at, sizeof pair);
+            expect(pair[0] == wanted.first && pair[1] == wanted.second, "a pair");
+            at += sizeof pair;
+        }
+    }
+
     template <class Map>
     void compare_keys(const Map* it) {
         int64_t key = 0;
@@ -474,6 +489,7 @@ struct Pair {
                 break;
             default:
                 compare_keys(theirs.template find<typename Peer::FlatMap>(name));
+                compare_pairs(theirs.template find<typename Peer::FlatMap>(name));
         }
     }
 

@@ -648,13 +648,14 @@ enum value_type : std::uint32_t {
     MAP,
     OWN,
     PAIR,
-    SHARED
+    SHARED,
+    FLAT_MAP
 };
 
 static const lz::type value_types[] = {
     lz::type_of(lz::kind::i64),          lz::type_of(lz::kind::str),         lz::type_of(lz::kind::vec, {NUMBER}),
     lz::type_of(lz::kind::list, {TEXT}), lz::type_of(lz::kind::map, {TEXT}), lz::type_of(lz::kind::own, {TEXT}),
-    lz::type_of(lz::kind::structure, {NUMBER, TEXT}), lz::type_of(lz::kind::shared, {TEXT}),
+    lz::type_of(lz::kind::structure, {NUMBER, TEXT}), lz::type_of(lz::kind::shared, {TEXT}), lz::type_of(lz::kind::flat_map, {NUMBER}),
 };
 
 // Goes through a range to its end, and returns the fault that ended it.
@@ -686,7 +687,9 @@ static lz::basic_segment<Policy> filled()
     const auto numbers = VALUE(segment.construct("numbers", NUMBERS));
     const auto list = VALUE(segment.construct("list", LIST));
     const auto map = VALUE(segment.find_or_construct("map", MAP));
+    const auto flat = VALUE(segment.construct("flat", FLAT_MAP));
     for (int i = 0; i < 5; i++) {
+        VALUE(VALUE(flat.put(i * 3 % 5 - 2)).store(-100 * (i * 3 % 5)));
         VALUE(VALUE(numbers.push_back()).store(i * i));
         VALUE(VALUE(i % 2 == 0 ? list.push_back() : list.push_front()).assign(std::to_string(i)));
         VALUE(VALUE(map.put(10 * (i * 3 % 5))).assign(std::to_string(i * 3 % 5)));
@@ -708,7 +711,7 @@ static void read_values(const Segment &segment)
     for (const lz::named &object : segment.names()) {
         names += std::string(object.view()) + ' ' + std::to_string(object.type) + ' ' + std::to_string(object.count) + ',';
     }
-    expect("names", names == "list 3 1,map 4 1,number 0 3,numbers 2 1,own 5 1,shared 7 1,");
+    expect("names", names == "flat 8 1,list 3 1,map 4 1,number 0 3,numbers 2 1,own 5 1,shared 7 1,");
     expect("named object", VALUE(segment.named_object("number")).count == 3);
     const auto number = VALUE(segment.find("number", NUMBER));
     expect("load", VALUE(number.load()) == -41 && VALUE(number.template as<std::int64_t>()) == -41);
@@ -750,6 +753,16 @@ static void read_values(const Segment &segment)
         sum += key;
     }
     expect("keys", sum == 100 && VALUE(map.size()) == 5);
+    const auto flat = VALUE(segment.find("flat", FLAT_MAP));
+    const lz::pairs_view pairs = VALUE(flat.template as<lz::pairs_view>());
+    std::string found;
+    for (const auto &[key, one] : pairs) {
+        found += std::to_string(key) + '=' + std::to_string(one) + ' ';
+    }
+    expect("pairs", found == "-2=0 -1=-100 0=-200 1=-300 2=-400 " && pairs.size() == 5 && !pairs.empty());
+    expect("pairs: an index", pairs[3] == lz::pairs_view::value_type(1, -300) && pairs.bytes().size() == 80);
+    expect("pairs: iterators", pairs.end() - pairs.begin() == 5 && pairs.begin()[4].second == -400 && (*(pairs.end() - 1)).first == 2 &&
+                                   pairs.begin() < pairs.end());
     expect("get", VALUE(VALUE(map.get(30)).text()) == "3" && VALUE(map.get_if(30)).value() == VALUE(map.get(30)));
     expect("get if: no such key", !VALUE(map.get_if(31)) && !VALUE(segment.find_if("absent", MAP)));
     const auto own = VALUE(segment.find("own", OWN));
@@ -770,6 +783,10 @@ static void read_values(const Segment &segment)
     REFUSED(range, pair.field(2));
     REFUSED(other, number.text());
     REFUSED(other, number.numbers());
+    REFUSED(other, number.pairs());
+    REFUSED(other, vector.pairs());
+    REFUSED(other, map.pairs());
+    REFUSED(other, flat.numbers());
     REFUSED(other, number.size());
     REFUSED(other, list.load());
     REFUSED(other, list.get_if(0));

@@ -18,14 +18,14 @@ enum { STACK = 8 << 20, PAINT = 0xC5, MOST_OUTPUT = 1 << 16, SIZE = 1 << 16 };
 
 /* The first types of the segment for calls on values. The others are structs, each of which contains the one before, twice as large each
  * time up to 1024 bytes. */
-enum { NUMBER, TEXT, NUMBERS, LIST, FLAT_MAP, MAP, OWN, SHARED, PAIR, TYPES };
+enum { NUMBER, TEXT, NUMBERS, LIST, FLAT_MAP, MAP, OWN, SHARED, PAIR, PAIRS, TYPES };
 
 static const lezgauri_type first_types[TYPES] = {
     [NUMBER] = {LEZGAURI_KIND_I64, 0, {0}, {0}},          [TEXT] = {LEZGAURI_KIND_STR, 0, {0}, {0}},
     [NUMBERS] = {LEZGAURI_KIND_VEC, 1, {NUMBER}, {0}},    [LIST] = {LEZGAURI_KIND_LIST, 1, {MAP}, {0}},
     [FLAT_MAP] = {LEZGAURI_KIND_FLAT_MAP, 1, {LIST}, {0}}, [MAP] = {LEZGAURI_KIND_MAP, 1, {OWN}, {0}},
     [OWN] = {LEZGAURI_KIND_OWN, 1, {LIST}, {0}},          [SHARED] = {LEZGAURI_KIND_SHARED, 1, {LIST}, {0}},
-    [PAIR] = {LEZGAURI_KIND_STRUCT, 2, {NUMBER, TEXT}, {0}},
+    [PAIR] = {LEZGAURI_KIND_STRUCT, 2, {NUMBER, TEXT}, {0}}, [PAIRS] = {LEZGAURI_KIND_FLAT_MAP, 1, {NUMBER}, {0}},
 };
 
 /* The arguments of a call, and its status. */
@@ -310,6 +310,8 @@ CALL(push_back, lezgauri_push_back(of->values, of->place[LIST], &of->place[MAP])
 CALL(item, lezgauri_item(of->values, of->place[LIST], 1, &place))
 CALL(previous_item, lezgauri_previous_item(of->values, of->place[LIST], of->place[MAP], &place))
 CALL(put_flat, lezgauri_put(of->values, of->place[FLAT_MAP], 7, &place))
+CALL(put_number, lezgauri_put(of->values, of->place[PAIRS], 7, &place))
+CALL(pairs_of, lezgauri_pairs(of->values, of->place[PAIRS], &bytes))
 CALL(put, lezgauri_put(of->values, of->place[MAP], 7, &place))
 CALL(get, lezgauri_get(of->values, of->place[MAP], 7, &of->place[OWN]))
 CALL(next_key, lezgauri_next_key(of->values, of->place[MAP], NULL, &number))
@@ -381,6 +383,8 @@ static const struct {
     {"lezgauri_item", item, LEZGAURI_STACK_READ},
     {"lezgauri_previous_item", previous_item, LEZGAURI_STACK_READ},
     {"lezgauri_put", put_flat, LEZGAURI_STACK_RUN},
+    {"lezgauri_put", put_number, LEZGAURI_STACK_RUN},
+    {"lezgauri_pairs", pairs_of, LEZGAURI_STACK_READ},
     {"lezgauri_put", put, LEZGAURI_STACK_RUN},
     {"lezgauri_get", get, LEZGAURI_STACK_READ},
     {"lezgauri_next_key", next_key, LEZGAURI_STACK_READ},

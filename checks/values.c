@@ -100,7 +100,7 @@ static void allow(uint8_t *memory, int how)
 }
 
 /* The types of the tests, by their numbers. */
-enum { NUMBER, STRING, NUMBERS, LIST, FLAT_MAP, MAP, OWN, PAIR, SHARED, PAIRS, NAMES, STRINGS, TYPES, NO_TYPE = TYPES };
+enum { NUMBER, STRING, NUMBERS, LIST, FLAT_MAP, MAP, OWN, PAIR, SHARED, PAIRS, NAMES, STRINGS, FLAT_NAMES, TYPES, NO_TYPE = TYPES };
 
 static const lezgauri_type table[TYPES] = {
     [NUMBER] = {LEZGAURI_KIND_I64, 0, {0}, {0}},
@@ -115,6 +115,7 @@ static const lezgauri_type table[TYPES] = {
     [PAIRS] = {LEZGAURI_KIND_VEC, 1, {PAIR}, {0}},
     [NAMES] = {LEZGAURI_KIND_MAP, 1, {STRING}, {0}},
     [STRINGS] = {LEZGAURI_KIND_LIST, 1, {STRING}, {0}},
+    [FLAT_NAMES] = {LEZGAURI_KIND_FLAT_MAP, 1, {STRING}, {0}},
 };
 
 static void done(const char *call, uint32_t status)
@@ -179,6 +180,16 @@ static void has_text(const char *what, const lezgauri_handle *handle, lezgauri_p
     expect(what, bytes.len, strlen(text));
     expect(what, bytes.len == strlen(text) && memcmp(bytes.bytes, text, bytes.len) == 0, 1);
     expect(what, len_of(handle, place), strlen(text));
+}
+
+/* The number in 8 bytes, the lowest first. */
+static uint64_t number_in(const uint8_t *bytes)
+{
+    uint64_t number = 0;
+    for (int k = 7; k >= 0; k--) {
+        number = number << 8 | bytes[k];
+    }
+    return number;
 }
 
 static bool is_same(lezgauri_place a, lezgauri_place b)
@@ -407,11 +418,7 @@ static void vectors(lezgauri_handle *handle)
     done("numbers", lezgauri_numbers(handle, vector, &bytes));
     expect("numbers: length", bytes.len, 8 * COUNT);
     for (int i = 0; i < COUNT; i++) {
-        uint64_t number = 0;
-        for (int k = 7; k >= 0; k--) {
-            number = number << 8 | bytes.bytes[8 * i + k];
-        }
-        expect("numbers: a number", number, (uint64_t)(int64_t)(3 - 5 * i));
+        expect("numbers: a number", number_in(bytes.bytes + 8 * i), (uint64_t)(int64_t)(3 - 5 * i));
         done("item", lezgauri_item(handle, vector, (uint32_t)i, &item));
         expect("item", (uint64_t)number_at(handle, item), (uint64_t)(int64_t)(3 - 5 * i));
     }
@@ -439,6 +446,8 @@ static void vectors(lezgauri_handle *handle)
     }
     expect("numbers of structs", lezgauri_numbers(handle, pairs, &bytes), LEZGAURI_OTHER_TYPE);
     expect("numbers of a number", lezgauri_numbers(handle, field, &bytes), LEZGAURI_OTHER_TYPE);
+    expect("pairs of a vector", lezgauri_pairs(handle, vector, &bytes), LEZGAURI_OTHER_TYPE);
+    expect("pairs of structs", lezgauri_pairs(handle, pairs, &bytes), LEZGAURI_OTHER_TYPE);
     is_sound("vector: sound", handle);
     done("clear", lezgauri_clear(handle, pairs));
     expect("clear: len", len_of(handle, pairs), 0);
@@ -527,6 +536,41 @@ static void batches(lezgauri_handle *handle, lezgauri_place map, const int64_t *
     }
 }
 
+/* Compares the pairs of a flat map with `count` keys: every `step`-th from the first given one on. The value of keys[i] is 2 * i + 1. A map
+ * that isn't flat has no pairs. */
+static void has_pairs(lezgauri_handle *handle, lezgauri_place map, const int64_t *keys, size_t first, size_t step, size_t count)
+{
+    lezgauri_bytes bytes = {NULL, 7};
+    if (map.type != FLAT_MAP) {
+        expect("pairs of a tree", lezgauri_pairs(handle, map, &bytes), LEZGAURI_OTHER_TYPE);
+        expect("pairs of a tree: as before", bytes.len, 7);
+        return;
+    }
+    done("pairs", lezgauri_pairs(handle, map, &bytes));
+    expect("pairs: length", bytes.len, 16 * count);
+    for (size_t i = 0; i < count && bytes.len == 16 * count; i++) {
+        size_t which = first + step * i;
+        lezgauri_place value = {0, 0};
+        expect("pairs: key", number_in(bytes.bytes + 16 * i), (uint64_t)keys[which]);
+        expect("pairs: number", number_in(bytes.bytes + 16 * i + 8), 2 * which + 1);
+        done("get", lezgauri_get(handle, map, keys[which], &value));
+        expect("pairs: not a copy", bytes.bytes + 16 * i + 8 == image_of(handle).bytes + value.at, 1);
+    }
+}
+
+static void flat_map_of_strings(lezgauri_handle *handle)
+{
+    lezgauri_place map = constructed(handle, "names", FLAT_NAMES), value;
+    lezgauri_bytes bytes = {NULL, 7};
+    done("put", lezgauri_put(handle, map, 1, &value));
+    done("assign", lezgauri_assign(handle, value, "one", 3));
+    expect("pairs of strings", lezgauri_pairs(handle, map, &bytes), LEZGAURI_OTHER_TYPE);
+    expect("pairs of a string", lezgauri_pairs(handle, value, &bytes), LEZGAURI_OTHER_TYPE);
+    expect("pairs of strings: as before", bytes.len, 7);
+    is_sound("flat map of strings: sound", handle);
+    done("destroy", lezgauri_destroy(handle, "names", FLAT_NAMES));
+}
+
 /* Puts the keys of a row, which jump between both ends, and compares the map with the row in order. */
 static void maps(lezgauri_handle *handle, uint32_t type)
 {
@@ -547,6 +591,7 @@ static void maps(lezgauri_handle *handle, uint32_t type)
     expect("next entry of none: as before", (uint64_t)key, 7);
     expect("next entry of none: as before", is_same(value, (lezgauri_place){7, type}), 1);
     batches(handle, map, keys, 0);
+    has_pairs(handle, map, keys, 0, 1, 0);
     for (int i = 0; i < COUNT; i++) {
         int which = i * STEP % COUNT;
         expect("get, not yet", lezgauri_get(handle, map, keys[which], &value), LEZGAURI_ABSENT);
@@ -595,6 +640,7 @@ static void maps(lezgauri_handle *handle, uint32_t type)
     }
     expect("previous entry of the least", lezgauri_previous_entry(handle, map, &key, &key, &value), LEZGAURI_NO_VALUE);
     batches(handle, map, keys, COUNT);
+    has_pairs(handle, map, keys, 0, 1, COUNT);
     lezgauri_entry entries[3] = {{7, {7, type}}};
     size_t count = 0;
     from = NULL;
@@ -639,10 +685,13 @@ static void maps(lezgauri_handle *handle, uint32_t type)
     for (int i = 0; i < COUNT / 2; i++) {
         expect("next entries, the others", (uint64_t)odd[i].key, (uint64_t)keys[2 * i + 1]);
     }
+    has_pairs(handle, map, keys, 1, 2, COUNT / 2);
     is_sound("remove: sound", handle);
     /* a tree has no buffer */
     expect("shrink to fit", lezgauri_shrink_to_fit(handle, map), type == FLAT_MAP ? LEZGAURI_OK : LEZGAURI_OTHER_TYPE);
     is_sound("shrink to fit: sound", handle);
+    has_pairs(handle, map, keys, 1, 2, COUNT / 2);
+    done("get", lezgauri_get(handle, map, keys[1], &value));
     expect("get of a number", lezgauri_get(handle, value, 0, &other), LEZGAURI_OTHER_TYPE);
     expect("put in a number", lezgauri_put(handle, value, 0, &other), LEZGAURI_OTHER_TYPE);
     expect("next key of a number", lezgauri_next_key(handle, value, NULL, &key), LEZGAURI_OTHER_TYPE);
@@ -660,6 +709,9 @@ static void maps(lezgauri_handle *handle, uint32_t type)
     expect("next entries of a number, no room", lezgauri_next_entries(handle, value, NULL, NULL, 0, &count), LEZGAURI_OTHER_TYPE);
     expect("next entries of a number: as before", entries[0].key == 7 && is_same(entries[0].value, (lezgauri_place){7, type}), 1);
     expect("next entries of a number: as before", count, 7);
+    lezgauri_bytes bytes;
+    expect("pairs of a number", lezgauri_pairs(handle, value, &bytes), LEZGAURI_OTHER_TYPE);
+    expect("numbers of a map", lezgauri_numbers(handle, map, &bytes), LEZGAURI_OTHER_TYPE);
     uint32_t status;
     do {
         status = lezgauri_put(handle, map, between++, &value);
@@ -668,6 +720,7 @@ static void maps(lezgauri_handle *handle, uint32_t type)
     is_sound("put, no room: sound", handle);
     done("clear", lezgauri_clear(handle, map));
     expect("clear: len", len_of(handle, map), 0);
+    has_pairs(handle, map, keys, 0, 1, 0);
     done("destroy", lezgauri_destroy(handle, "map", type));
 }
 
@@ -852,6 +905,7 @@ static uint32_t make_field(const given *g) { return lezgauri_field(g->handle, g-
 static uint32_t make_len(const given *g) { return lezgauri_len(g->handle, g->place, g->result); }
 static uint32_t make_text(const given *g) { return lezgauri_text(g->handle, g->place, g->result); }
 static uint32_t make_numbers(const given *g) { return lezgauri_numbers(g->handle, g->place, g->result); }
+static uint32_t make_pairs(const given *g) { return lezgauri_pairs(g->handle, g->place, g->result); }
 static uint32_t make_item(const given *g) { return lezgauri_item(g->handle, g->place, g->index, g->result); }
 static lezgauri_place item_of(const given *g) { return (lezgauri_place){g->index, NUMBER}; }
 static uint32_t make_next_item(const given *g) { return lezgauri_next_item(g->handle, g->place, item_of(g), g->result); }
@@ -953,6 +1007,7 @@ static const call calls[] = {
     {"len", make_len, RETURNS(uint32_t), false, false},
     {"text", make_text, RETURNS(lezgauri_bytes), false, false},
     {"numbers", make_numbers, RETURNS(lezgauri_bytes), false, false},
+    {"pairs", make_pairs, RETURNS(lezgauri_bytes), false, false},
     {"item", make_item, RETURNS(lezgauri_place), false, false},
     {"next item", make_next_item, RETURNS(lezgauri_place), false, false},
     {"previous item", make_previous_item, RETURNS(lezgauri_place), false, false},
@@ -1011,7 +1066,7 @@ typedef union result {
 static lezgauri_handle *filled(uint8_t *memory, uint32_t allocator, uint32_t index, lezgauri_place places[TYPES])
 {
     static const char *const names[TYPES] = {"number", "string", "numbers", "list", "flat_map", "map", "own", "pair", "shared", "pairs",
-                                             "names", "strings"};
+                                             "names", "strings", "flat_names"};
     lezgauri_handle *handle = new_segment(memory, allocator, index);
     lezgauri_place item;
     for (uint32_t type = 0; type < TYPES; type++) {
@@ -1025,6 +1080,7 @@ static lezgauri_handle *filled(uint8_t *memory, uint32_t allocator, uint32_t ind
         done("push back", lezgauri_push_back(handle, places[PAIRS], &item));
         done("put", lezgauri_put(handle, places[NAMES], i, &item));
         done("assign", lezgauri_assign(handle, item, "a name in a map", 15));
+        done("put", lezgauri_put(handle, places[FLAT_NAMES], i, &item));
         done("push back", lezgauri_push_back(handle, places[STRINGS], &item));
         done("assign", lezgauri_assign(handle, item, "a string in a list", 18));
     }
@@ -1187,8 +1243,8 @@ static void arguments(void)
 
 /* ---- invalid places */
 
-static const uint32_t numbers_of_types[] = {NUMBER, STRING, NUMBERS, LIST, FLAT_MAP, MAP, OWN, PAIR, SHARED, PAIRS, NAMES, STRINGS, NO_TYPE,
-                                            31, 32, 255, 256, UINT32_MAX};
+static const uint32_t numbers_of_types[] = {NUMBER, STRING, NUMBERS, LIST, FLAT_MAP, MAP, OWN, PAIR, SHARED, PAIRS, NAMES, STRINGS,
+                                            FLAT_NAMES, NO_TYPE, 31, 32, 255, 256, UINT32_MAX};
 
 /* Positions in and beyond an image. */
 static uint32_t position(uint32_t seed)
@@ -1202,7 +1258,7 @@ static uint32_t position(uint32_t seed)
 /* A range that a call returned must be in the image, a name must end, and entries must have had room. */
 static void is_inside(const call *of, const result *there, const uint8_t *memory)
 {
-    if (of->make == make_text || of->make == make_numbers) {
+    if (of->make == make_text || of->make == make_numbers || of->make == make_pairs) {
         bool is = there->bytes.len == 0 || (there->bytes.bytes >= memory && there->bytes.bytes + there->bytes.len <= memory + SIZE);
         expect(of->name, is, 1);
     }
@@ -1585,6 +1641,7 @@ int main(void)
         lists(handle);
         maps(handle, FLAT_MAP);
         maps(handle, MAP);
+        flat_map_of_strings(handle);
         owners(handle);
         used_up_numbers(handle, memory);
         done("free memory", lezgauri_free_memory(handle, &all, &largest));

@@ -232,6 +232,7 @@ static uint64_t read_all(const lezgauri_handle *segment, const call *it, lezgaur
         lezgauri_len(segment, place, &len),
         lezgauri_text(segment, place, &bytes),
         lezgauri_numbers(segment, place, &bytes),
+        lezgauri_pairs(segment, place, &bytes),
         lezgauri_item(segment, place, it->number, &found),
         lezgauri_get(segment, place, it->key, &found),
         lezgauri_next_key(segment, place, &it->key, &number),

@@ -63,9 +63,15 @@ static void walk_items(walk *of, lezgauri_place place, bool is_list, uint32_t le
 
 static void walk_keys(walk *of, lezgauri_place place, uint32_t len, uint32_t depth)
 {
+    const lezgauri_type *type = &of->types[place.type];
+    bool has_pairs = type->kind == LEZGAURI_KIND_FLAT_MAP && of->types[type->components[0]].kind == LEZGAURI_KIND_I64;
     int64_t key = 0, before;
     lezgauri_entry entries[BATCH];
+    lezgauri_bytes pairs = {NULL, 0};
     size_t count = 0;
+    uint32_t status = lezgauri_pairs(of->segment, place, &pairs);
+    NEED(status == (has_pairs ? LEZGAURI_OK : LEZGAURI_OTHER_TYPE), "pairs returns %u", status);
+    NEED(!has_pairs || pairs.len == 16 * (size_t)len, "pairs have another length");
     for (uint32_t i = 0; i < len && of->values < MOST_VALUES; i++) {
         lezgauri_place value, found;
         int64_t last = key, same;
@@ -84,6 +90,12 @@ static void walk_keys(walk *of, lezgauri_place place, uint32_t len, uint32_t dep
         }
         const lezgauri_entry *each = &entries[i % BATCH];
         NEED(each->key == key && each->value.at == value.at && each->value.type == value.type, "a batch has another entry");
+        if (has_pairs) {
+            int64_t pair[2], number;
+            memcpy(pair, pairs.bytes + 16 * (size_t)i, sizeof pair);
+            need_ok("load", lezgauri_load(of->segment, value, &number));
+            NEED(pair[0] == key && pair[1] == number, "a pair isn't a key and its number");
+        }
         walk_value(of, value, depth + 1);
         if (i == len - 1) {
             NEED(lezgauri_next_key(of->segment, place, &key, &last) == LEZGAURI_NO_VALUE,

@@ -113,6 +113,7 @@ CALLS = {
     "lezgauri_len": (c_uint32, (*_AT, POINTER(c_uint32))),
     "lezgauri_text": _TO_BYTES,
     "lezgauri_numbers": _TO_BYTES,
+    "lezgauri_pairs": _TO_BYTES,
     "lezgauri_item": _INDEXED,
     "lezgauri_next_item": _STEP,
     "lezgauri_previous_item": _STEP,

@@ -146,6 +146,15 @@ class Value:
             refuse(call(address, self._place, byref(found)))
             return handle.exported(found.bytes, found.len) if found.len else memoryview(b"")
 
+    def _numbers(self, call: Callable[..., int]) -> memoryview:
+        """A read-only view of the numbers whose bytes a call returns."""
+        numbers = self._bytes(call)
+        return numbers.cast("q") if numbers.nbytes else memoryview(array.array("q")).toreadonly()
+
+    def _has_numbers(self) -> bool:
+        """Whether the values in a container are numbers."""
+        return self.segment._type(self.type.components[0]).kind == Kind.I64
+
 
 def _add(add: Callable[[], Value], value: Any, undo: Callable[[], None]) -> None:
     """Adds a default value and assigns to it. If that fails, removes it again. A view is copied first, since adding may move its value."""
@@ -336,11 +345,7 @@ class Vector(_Growing):
         """A read-only view of the numbers of a `vec(i64)` without a copy, of format "q", until the next call that changes the segment:
         after it the view has unspecified numbers. While it exists, `Segment.grow` raises BufferError. Raises OtherType if the items
         aren't numbers."""
-        numbers = self._bytes(library().lezgauri_numbers)
-        return numbers.cast("q") if numbers.nbytes else memoryview(array.array("q")).toreadonly()
-
-    def _has_numbers(self) -> bool:
-        return self.segment._type(self.type.components[0]).kind == Kind.I64
+        return self._numbers(library().lezgauri_numbers)
 
     def __iter__(self) -> Iterator[Any]:
         # one call for all numbers
@@ -535,6 +540,12 @@ class Map(_Sized, MutableMapping):  # type: ignore[type-arg]
         """The values in ascending order of their keys."""
         return Values(self)
 
+    def pairs(self) -> memoryview:
+        """A read-only view of the keys and numbers of a `flat_map(i64)` without a copy, of format "q": each key is followed by its number,
+        so `pairs[::2]` are the keys in ascending order and `pairs[1::2]` the numbers. It is used as `Vector.numbers` is. Raises OtherType
+        for other maps."""
+        return self._numbers(library().lezgauri_pairs)
+
     def __iter__(self) -> Iterator[int]:
         return iter(self.keys())
 
@@ -630,7 +641,11 @@ class Map(_Sized, MutableMapping):  # type: ignore[type-arg]
             self.update(items)
 
     def _plain(self, kept: Optional[Kept]) -> Dict[int, Any]:
-        return {key: view._plain(kept) for key, view in self._views()}
+        if self.type.kind != Kind.FLAT_MAP or not self._has_numbers():
+            return {key: view._plain(kept) for key, view in self._views()}
+        # one call for all pairs
+        with self.pairs() as pairs:
+            return dict(zip(pairs[::2], pairs[1::2]))
 
 
 class Own(Value):

@@ -803,6 +803,34 @@ class MapTest(ValueCase):
             tree = segment.construct("tree", t.map(t.i64))
             self.refuses(segment, (lambda: tree.shrink_to_fit(), lezgauri.OtherType))
 
+    def test_pairs(self):
+        for segment in self.segments(t.flat_map(t.i64), t.map(t.i64), FLAT):
+            flat = segment.construct("flat", t.flat_map(t.i64))
+            with flat.pairs() as pairs:
+                self.assertEqual((pairs.format, pairs.readonly, pairs.tolist()), ("q", True, []))
+            flat.update({5: -1, LEAST: 7, MOST: MOST, -3: 0, 4: LEAST})
+            pairs = flat.pairs()
+            self.assertEqual((pairs.format, pairs.itemsize, pairs.shape, pairs.readonly), ("q", 8, (10,), True))
+            self.assertEqual((pairs[::2].tolist(), pairs[1::2].tolist()), ([LEAST, -3, 4, 5, MOST], [7, 0, LEAST, -1, MOST]))
+            with self.assertRaises(TypeError):
+                pairs[1] = 1
+            # it isn't a copy
+            flat[4] = 8
+            self.assertEqual(pairs[5], 8)
+            pairs.release()
+            del flat[5], flat[LEAST]
+            flat.shrink_to_fit()
+            with flat.pairs() as pairs:
+                self.assertEqual(pairs.tolist(), [-3, 0, 4, 8, MOST, MOST])
+                with self.assertRaises(BufferError):
+                    segment.grow(1 << 20)
+            flat.clear()
+            self.assertEqual((flat.pairs().tolist(), flat.plain()), ([], {}))
+            tree, users = segment.construct("tree", t.map(t.i64)), segment.construct("users", FLAT)
+            tree[1], users[1] = 2, (3, "x")
+            self.refuses(segment, (lambda: tree.pairs(), lezgauri.OtherType), (lambda: users.pairs(), TypeError))
+            self.assertEqual((tree, users), ({1: 2}, {1: (3, b"x")}))
+
 
 class OwnTest(ValueCase):
     def test_own(self):
@@ -1182,7 +1210,7 @@ class ClosedTest(ValueCase):
             lambda: len(text), lambda: vector[0], lambda: vector.numbers(), lambda: vector.append(1), lambda: vector.pop(),
             lambda: list(vector),
             lambda: items[0], lambda: items.appendleft(1), lambda: list(items), lambda: items.popleft(),
-            lambda: table[1], lambda: table.put(1), lambda: list(table), lambda: table.first(), lambda: 1 in table,
+            lambda: table[1], lambda: table.put(1), lambda: list(table), lambda: table.first(), lambda: 1 in table, lambda: table.pairs(),
             lambda: own.content, lambda: own.put_content(), lambda: bool(own), lambda: shared.content, lambda: shared.freeze(own),
             lambda: shared.share(shared), lambda: user[0], lambda: user.assign((1, "a")), lambda: user == (1, b"a"), lambda: many[0],
             lambda: segment["x0"], lambda: "x0" in segment, lambda: list(segment), lambda: next(names), lambda: len(segment),

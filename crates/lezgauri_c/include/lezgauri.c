@@ -90,6 +90,7 @@ uint32_t lezgauri_raw_field(const uint8_t *image, size_t len, kept_types *types,
 uint32_t lezgauri_raw_len(const uint8_t *image, size_t len, kept_types *types, uint32_t at, uint32_t type, uint32_t *count);
 uint32_t lezgauri_raw_text(const uint8_t *image, size_t len, kept_types *types, uint32_t at, uint32_t type, raw_range *range);
 uint32_t lezgauri_raw_numbers(const uint8_t *image, size_t len, kept_types *types, uint32_t at, uint32_t type, raw_range *range);
+uint32_t lezgauri_raw_pairs(const uint8_t *image, size_t len, kept_types *types, uint32_t at, uint32_t type, raw_range *range);
 uint32_t lezgauri_raw_item(const uint8_t *image, size_t len, kept_types *types, uint32_t at, uint32_t type, uint32_t index,
                            lezgauri_place *item);
 uint32_t lezgauri_raw_next_item(const uint8_t *image, size_t len, kept_types *types, uint32_t at, uint32_t type, uint32_t item,
@@ -1168,6 +1169,11 @@ uint32_t lezgauri_text(const lezgauri_handle *handle, lezgauri_place place, lezg
 uint32_t lezgauri_numbers(const lezgauri_handle *handle, lezgauri_place place, lezgauri_bytes *numbers)
 {
     return bytes_of(handle, place, numbers, lezgauri_raw_numbers);
+}
+
+uint32_t lezgauri_pairs(const lezgauri_handle *handle, lezgauri_place place, lezgauri_bytes *pairs)
+{
+    return bytes_of(handle, place, pairs, lezgauri_raw_pairs);
 }
 
 uint32_t lezgauri_field(const lezgauri_handle *handle, lezgauri_place place, uint32_t index, lezgauri_place *field)

@@ -444,6 +444,13 @@ uint32_t lezgauri_text(const lezgauri_handle *handle, lezgauri_place place, lezg
 uint32_t lezgauri_numbers(const lezgauri_handle *handle, lezgauri_place place, lezgauri_bytes *numbers);
 
 /*
+ * The keys of a flat map of i64 with their numbers, to be read where they are, until the next call on the segment that may change it: 8
+ * bytes for a key and 8 for its number, little-endian, in ascending order of the keys. They are aligned to 8 bytes if the image is. Nobody
+ * may write them. LEZGAURI_OTHER_TYPE for other values, also for a map that isn't flat.
+ */
+uint32_t lezgauri_pairs(const lezgauri_handle *handle, lezgauri_place place, lezgauri_bytes *pairs);
+
+/*
  * The place of an item of a vector or list, by its index from 0. LEZGAURI_OUT_OF_RANGE if there are fewer items. In a list it is found
  * step by step from the nearer end.
  */

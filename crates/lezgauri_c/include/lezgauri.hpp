@@ -693,35 +693,58 @@ namespace detail {
 // The bytes of a number.
 constexpr int number_size = 8;
 
-} // namespace detail
+// compilers make this one load
+inline std::int64_t number_at(const std::uint8_t *at) noexcept
+{
+    std::uint64_t number = 0;
+    for (int i = 0; i < number_size; i++) {
+        number |= std::uint64_t(at[i]) << (8 * i);
+    }
+    return static_cast<std::int64_t>(number);
+}
 
-// The numbers of a vector, where they are. It is like a std::span of std::int64_t, but their bytes may have any address and the host any
-// byte order.
-class numbers_view {
+// The items of the views below: the type, the bytes, and how an item is read.
+struct number_item {
+    using type = std::int64_t;
+    static constexpr int size = number_size;
+    static type at(const std::uint8_t *at) noexcept { return number_at(at); }
+};
+
+struct pair_item {
+    using type = std::pair<std::int64_t, std::int64_t>;
+    static constexpr int size = 2 * number_size;
+    static type at(const std::uint8_t *at) noexcept { return {number_at(at), number_at(at + number_size)}; }
+};
+
+// Items in a row, where they are. It is like a std::span of them, but their bytes may have any address and the host any byte order.
+template <class Item>
+class items_view {
 public:
+    using value_type = typename Item::type;
+
     class iterator {
     public:
         using iterator_category = std::random_access_iterator_tag;
-        using value_type = std::int64_t;
+        using value_type = typename Item::type;
         using difference_type = std::ptrdiff_t;
-        using pointer = const std::int64_t *;
-        using reference = std::int64_t;
+        using pointer = const value_type *;
+        using reference = value_type;
 
         constexpr iterator() noexcept = default;
         explicit iterator(const std::uint8_t *at) noexcept : at_(at) {}
 
-        std::int64_t operator*() const noexcept { return number_at(at_); }
-        std::int64_t operator[](difference_type n) const noexcept { return *(*this + n); }
+        value_type operator*() const noexcept { return Item::at(at_); }
+        value_type operator[](difference_type n) const noexcept { return *(*this + n); }
         iterator &operator++() noexcept { return *this += 1; }
         iterator operator++(int) noexcept { return std::exchange(*this, *this + 1); }
         iterator &operator--() noexcept { return *this -= 1; }
         iterator operator--(int) noexcept { return std::exchange(*this, *this - 1); }
-        iterator &operator+=(difference_type n) noexcept { return at_ += n * detail::number_size, *this; }
-        iterator &operator-=(difference_type n) noexcept { return at_ -= n * detail::number_size, *this; }
+        iterator &operator+=(difference_type n) noexcept { return at_ += n * Item::size, *this; }
+        iterator &operator-=(difference_type n) noexcept { return at_ -= n * Item::size, *this; }
         friend iterator operator+(iterator it, difference_type n) noexcept { return it += n; }
         friend iterator operator+(difference_type n, iterator it) noexcept { return it += n; }
         friend iterator operator-(iterator it, difference_type n) noexcept { return it -= n; }
-        friend difference_type operator-(iterator a, iterator b) noexcept { return (a.at_ - b.at_) / detail::number_size; }
+        friend difference_type operator-(iterator a, iterator b) noexcept { return (a.at_ - b.at_) / Item::size; }
         friend bool operator==(iterator a, iterator b) noexcept { return a.at_ == b.at_; }
         friend bool operator!=(iterator a, iterator b) noexcept { return a.at_ != b.at_; }
         friend bool operator<(iterator a, iterator b) noexcept { return a.at_ < b.at_; }
@@ -733,30 +756,28 @@ public:
         const std::uint8_t *at_ = nullptr;
     };
 
-    constexpr numbers_view() noexcept = default;
-    explicit numbers_view(const lezgauri_bytes &bytes) noexcept : at_(bytes.bytes), count_(bytes.len / detail::number_size) {}
+    constexpr items_view() noexcept = default;
+    explicit items_view(const lezgauri_bytes &bytes) noexcept : at_(bytes.bytes), count_(bytes.len / Item::size) {}
 
     std::size_t size() const noexcept { return count_; }
     bool empty() const noexcept { return count_ == 0; }
-    std::int64_t operator[](std::size_t index) const noexcept { return number_at(at_ + index * detail::number_size); }
+    value_type operator[](std::size_t index) const noexcept { return Item::at(at_ + index * Item::size); }
     iterator begin() const noexcept { return iterator(at_); }
-    iterator end() const noexcept { return iterator(at_ + count_ * detail::number_size); }
-    const_bytes bytes() const noexcept { return {at_, count_ * detail::number_size}; }
+    iterator end() const noexcept { return iterator(at_ + count_ * Item::size); }
+    const_bytes bytes() const noexcept { return {at_, count_ * Item::size}; }
 
 private:
-    // compilers make this one load
-    static std::int64_t number_at(const std::uint8_t *at) noexcept
-    {
-        std::uint64_t number = 0;
-        for (int i = 0; i < detail::number_size; i++) {
-            number |= std::uint64_t(at[i]) << (8 * i);
-        }
-        return static_cast<std::int64_t>(number);
-    }
-
     const std::uint8_t *at_ = nullptr;
     std::size_t count_ = 0;
 };
+
+} // namespace detail
+
+// The numbers of a vector, where they are.
+using numbers_view = detail::items_view<detail::number_item>;
+
+// The keys of a flat map in ascending order, each with its number, where they are: for (const auto &[key, number] : map.pairs()) ..
+using pairs_view = detail::items_view<detail::pair_item>;
 
 namespace detail {
 
@@ -978,18 +999,21 @@ public:
 
     // ---- reading
 
-    // The value as an std::int64_t, an std::string_view or a numbers_view: `load`, `text` or `numbers`.
+    // The value as an std::int64_t, an std::string_view, a numbers_view or a pairs_view: `load`, `text`, `numbers` or `pairs`.
     template <class T>
     [[nodiscard]] result<T> as() const noexcept(Policy::is_noexcept)
     {
-        static_assert(std::is_same_v<T, std::int64_t> || std::is_same_v<T, std::string_view> || std::is_same_v<T, numbers_view>,
-                      "a value is a std::int64_t, a std::string_view or a numbers_view");
+        static_assert(std::is_same_v<T, std::int64_t> || std::is_same_v<T, std::string_view> || std::is_same_v<T, numbers_view> ||
+                          std::is_same_v<T, pairs_view>,
+                      "a value is a std::int64_t, a std::string_view, a numbers_view or a pairs_view");
         if constexpr (std::is_same_v<T, std::int64_t>) {
             return load();
         } else if constexpr (std::is_same_v<T, std::string_view>) {
             return text();
-        } else {
+        } else if constexpr (std::is_same_v<T, numbers_view>) {
             return numbers();
+        } else {
+            return pairs();
         }
     }
 
@@ -1015,6 +1039,14 @@ public:
         lezgauri_bytes bytes{};
         const std::uint32_t number = lezgauri_numbers(handle_, at_, &bytes);
         return detail::if_ok<Policy>(number, numbers_view(bytes));
+    }
+
+    // lezgauri_pairs: the keys of a flat map of i64 with their numbers where they are, until the next call that changes the segment.
+    [[nodiscard]] result<pairs_view> pairs() const noexcept(Policy::is_noexcept)
+    {
+        lezgauri_bytes bytes{};
+        const std::uint32_t number = lezgauri_pairs(handle_, at_, &bytes);
+        return detail::if_ok<Policy>(number, pairs_view(bytes));
     }
 
     // lezgauri_len: the number of bytes, items, keys or objects.

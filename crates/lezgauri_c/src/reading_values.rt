@@ -5,7 +5,7 @@ ghost use Rattle.seg_spec.specs.Reads.{count_at, start};
 ghost use Rattle.seg_spec.specs.Types.{Form, form_at};
 ghost use Rattle.seg_spec.specs.Value.{count};
 ghost use Rattle.seg_seq.specs.Kinds.{HasNumbers};
-ghost use Rattle.lezgauri.specs.Places.{object_type, shared_type, content_place, frozen_place, is_counted, FieldPlace};
+ghost use Rattle.lezgauri.specs.Places.{object_type, shared_type, content_place, frozen_place, is_counted, FieldPlace, HasPairs};
 ghost use Rattle.lezgauri_c.specs.Places as places;
 ghost use Rattle.lezgauri_c.specs.Places.{type_number, TellsPlace};
 ghost use Rattle.lezgauri_c.specs.KeptImages.{types_in};
@@ -23,6 +23,9 @@ use std::alloc::Global;
 
 /// The size of a number in bytes.
 const NUMBER: usize = 8;
+
+/// The size of a key and its number in a flat map.
+const PAIR: usize = 16;
 
 /// The number at a place of an image that an earlier call found sound, or changed. Fails as `ImageRead::load` does.
 #[unsafe(no_mangle)]
@@ -160,6 +163,33 @@ pub extern "C" fn lezgauri_raw_numbers(
     tell(found, numbers)
 }
 
+/// The bytes of the keys of a flat map of numbers, in ascending order, each followed by its number, 8 bytes for each of the two, the lowest
+/// first, in place. Returns the status for `OtherType` if the place isn't a flat map of numbers.
+#[unsafe(no_mangle)]
+pub extern "C" fn lezgauri_raw_pairs(
+    alloc: Global,
+    image: &[u8],
+    types: &mut KeptTypes,
+    at: u32,
+    type_id: u32,
+    pairs: &mut ByteRange,
+) -> u32
+    ensures pairs { OnSound image.now types.old (λ picture.
+        HasPairs picture.table (type_number type_id) → (result ≡ 0)
+        × (slice image.now pairs.new.at pairs.new.len
+        ≡ slice image.now (start image.now at) (count_at image.now at * 16))) }
+    ensures other { OnSound image.now types.old (λ picture.
+        ¬ HasPairs picture.table (type_number type_id) → result ≡ 114) }
+    ensures inside { result ≡ 0 → pairs.new.at + pairs.new.len ≤ length image.now }
+    ensures unwritten { 0 < result → pairs.new ≡ pairs.old }
+    ensures same { table_in types.new ≡ table_in types.old }
+    ensures status { IsReadStatus result }
+{
+    let place = place_at(at, type_id);
+    let found = on_reader!(alloc, image, types, reader => pairs_range(reader, place));
+    tell(found, pairs)
+}
+
 /// The place of the object that an own has, or of the frozen object to which a shared cell points. Returns the status for `OtherType` if
 /// the place is neither, for `Null` if it points to none.
 #[unsafe(no_mangle)]
@@ -227,6 +257,23 @@ fn numbers_range(reader: Reader<'_>, vector: ValuePlace) -> Result<ByteRange, Co
         count_in(reader.view, vector.at),
     );
     Ok(range_in(reader.view, from as usize, count as usize * NUMBER))
+}
+
+/// The range of the bytes of a flat map's keys and numbers.
+fn pairs_range(reader: Reader<'_>, map: ValuePlace) -> Result<ByteRange, Code>
+    ensures pairs { HasPairs (types_in reader.entry) map.type_id →
+        IfOk result (λ pairs. slice reader.entry.view.bytes.now pairs.at pairs.len
+        ≡ slice reader.entry.view.bytes.now (start reader.entry.view.bytes.now map.at)
+        (count_at reader.entry.view.bytes.now map.at * 16)) }
+    ensures done { HasPairs (types_in reader.entry) map.type_id → IsOk result }
+    ensures other { ¬ HasPairs (types_in reader.entry) map.type_id →
+        result ≡ Err Code.OtherType }
+    ensures inside { IfOk result
+        (λ pairs. pairs.at + pairs.len ≤ length reader.entry.view.bytes.now) }
+{
+    let _ = reader.pair_bytes(map)?;
+    let (from, count) = (start_in(reader.view, map.at), count_in(reader.view, map.at));
+    Ok(range_in(reader.view, from as usize, count as usize * PAIR))
 }
 
 /// The object that an own has, or the frozen object of a shared cell.

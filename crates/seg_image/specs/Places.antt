@@ -8,6 +8,7 @@
 --     is_list form                the values of this form are lists
 --     object_type form            the type of the objects that they own
 --     shared_type form            the type of the objects to which they point as shared cells
+--     HasPairs table T            values of a type are flat maps of numbers
 --     StandsIn image place v blocks   the place contains v, and owns these blocks
 --     WhereMap allocator segment map claim
 --                                 the claim is true of the map at a place
@@ -16,7 +17,7 @@
 --     FieldPlace table place i result
 --                                 the place of a field of a struct, or why the struct has no such field
 use Rattle.std.specs.Prelude.{◌≡◌, ℕ, ◌+◌, ◌*◌, ◌%◌, ◌^◌, ℤ, ◌==◌, nat_lt, if◌then◌else◌, Bool, true, false, List, length, Option, Some, None, slice_get, MatchOption, Result, Ok, Err}
-use Rattle.seg_spec.specs.Types.{Form, Table, fields_of, size}
+use Rattle.seg_spec.specs.Types.{Form, Table, form_at, fields_of, size}
 use Rattle.seg_spec.specs.Value.{Value, Values}
 use Rattle.seg_spec.specs.Owning.{Stands}
 use Rattle.seg_spec.specs.Frozen.{frozen_words}
@@ -79,6 +80,12 @@ object_type _ = None
 abbrev pub shared_type : Option Form → Option ℕ
 shared_type (Some (Form.shared T)) = Some T
 shared_type _ = None
+
+-- the values of a type are flat maps of numbers
+pub record HasPairs (table : Table) (T : ℕ) : Type 0 where
+  pub value : ℕ
+  pub map_is : form_at table T ≡ Some (Form.flat_map value)
+  pub number_is : form_at table value ≡ Some Form.i64
 
 -- ---- values
 

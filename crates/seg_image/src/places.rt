@@ -4,7 +4,7 @@ ghost use Rattle.seg_layout.specs.Forms.{form_of};
 ghost use Rattle.seg_seq.specs.Kinds.{HasNumbers};
 ghost use Rattle.seg_seq.specs.Sequences.{item_type};
 ghost use Rattle.seg_map.specs.EitherMap.{has_keys, IsMapOf};
-ghost use Rattle.seg_image.specs.Places.{found_position, found_entry, is_list, object_type, shared_type};
+ghost use Rattle.seg_image.specs.Places.{found_position, found_entry, is_list, object_type, shared_type, HasPairs};
 
 use seg_layout::{MAX_TYPES, Type, TypeId};
 use seg_map::KeyValue;
@@ -136,6 +136,22 @@ pub(crate) fn value_type_at<S: SegmentRead>(source: &S, map: Place) -> Result<Ty
         return Err(Code::OtherType);
     };
     Ok(value)
+}
+
+/// `OtherType` if the place isn't a flat map of numbers.
+pub(crate) fn expect_pairs<S: SegmentRead>(source: &S, place: Place) -> Result<(), Code>
+    ensures { MatchResult result
+        (λ _. HasPairs (S.stored source.now).types place.type_id)
+        (λ code. (code ≡ Code.OtherType)
+        × ¬ HasPairs (S.stored source.now).types place.type_id) }
+{
+    let Type::FlatMap(value) = type_at(source, place)? else {
+        return Err(Code::OtherType);
+    };
+    let Some(Type::I64) = source.types().kind(value) else {
+        return Err(Code::OtherType);
+    };
+    Ok(())
 }
 
 /// The type of the object that an own has.

@@ -18,13 +18,13 @@ ghost use Rattle.seg_map.specs.Maps.{FindsValue, FindsEntry, first_of, last_of, 
 ghost use Rattle.seg_index.specs.Lists.{root_after};
 ghost use Rattle.seg_manager.specs.Segments.{IsSegment, unique_at};
 ghost use Rattle.seg_manager.specs.NamedObjects.{found_as, DescribesRoot};
-ghost use Rattle.seg_image.specs.Places.{found_position, found_entry, first_place, item_place, value_count, is_counted, object_type, content_place, shared_type, frozen_place, FieldPlace, WhereMap};
+ghost use Rattle.seg_image.specs.Places.{found_position, found_entry, first_place, item_place, value_count, is_counted, object_type, content_place, shared_type, frozen_place, FieldPlace, HasPairs, WhereMap};
 ghost use Rattle.seg_image.specs.Iterators.{HasNamed, HasKeysLeft, HasReturned};
 
 use crate::iterators::{Entries, Items, Keys, Names};
 use crate::places::{
-    expect_number, expect_numbers, expect_string, is_list_at, item_type_at, known, object_type_at,
-    placed, placed_entry, shared_type_at, type_at, value_type_at,
+    expect_number, expect_numbers, expect_pairs, expect_string, is_list_at, item_type_at, known,
+    object_type_at, placed, placed_entry, shared_type_at, type_at, value_type_at,
 };
 use seg_layout::{Type, TypeId};
 use seg_manager::Named;
@@ -34,6 +34,9 @@ use seg_value::{Place, SegmentRead};
 
 /// The size of a number in bytes.
 const NUMBER: usize = 8;
+
+/// The size of a key and its number in a flat map.
+const PAIR: usize = 16;
 
 /// Reads objects and values of an open [`Image`](crate::Image), of a [`CheckedImage`](crate::CheckedImage), or of any
 /// other source of values.
@@ -272,6 +275,22 @@ pub trait ImageRead: SegmentRead {
         expect_numbers(self, vector)?;
         let (from, count) = (self.start(vector.at), SegmentRead::count(self, vector.at));
         Ok(self.view().slice(from as usize, count as usize * NUMBER))
+    }
+
+    /// The bytes of the keys of a flat map of numbers, in ascending order, each followed by its number: 8 bytes for a key
+    /// and 8 for a number, the lowest byte first. `OtherType` if the place isn't a flat map of numbers.
+    final fn pair_bytes(&self, map: Place) -> Result<&[u8], Code>
+        ensures bytes { MatchResult result
+            (λ pairs. HasPairs (Self.stored self.now).types map.type_id
+            × (pairs.now ≡ slice (Self.stored self.now).window.bytes
+            (start (Self.stored self.now).window.bytes map.at)
+            (count_at (Self.stored self.now).window.bytes map.at * 16)))
+            (λ code. (code ≡ Code.OtherType)
+            × ¬ HasPairs (Self.stored self.now).types map.type_id) }
+    {
+        expect_pairs(self, map)?;
+        let (from, count) = (self.start(map.at), SegmentRead::count(self, map.at));
+        Ok(self.view().slice(from as usize, count as usize * PAIR))
     }
 
     /// The place of an item of a vector or a list, by its index from 0. `OtherType` if the place is neither,

@@ -324,6 +324,32 @@ next_in_turn M 2 => 3
 remove M 4
 next_in_turn M 3 => 5
 next_in_turn M 7 => null
+
+; the keys and numbers of a flat map in place
+$ new 4096
+M = construct_unique t4
+pair_bytes M:
+A = put M 3
+store A 6
+B = put M -5
+store B -10
+put M 4
+pair_bytes M: -5 -10 3 6 4 0
+remove M 3
+pair_bytes M: -5 -10 4 0
+shrink_to_fit M
+pair_bytes M: -5 -10 4 0
+clear M
+pair_bytes M:
+number_bytes M => type
+T = construct_unique t5
+put T 3
+pair_bytes T => type
+V = construct_unique t2
+push_numbers V: 1 2
+pair_bytes V => type
+pair_bytes A => type
+pair_bytes Z => type
 ";
 
 /// Frozen objects and the cells that share them.

@@ -58,6 +58,7 @@ fn read_containers(image: &Image<Global>, call: &Call) -> Option<Answer> {
     Some(match call.verb {
         Verb::Items => flag_or_code(are_items(image, call)),
         Verb::NumberBytes => flag_or_code(are_bytes(image.number_bytes(call.place), call.text)),
+        Verb::PairBytes => flag_or_code(are_bytes(image.pair_bytes(call.place), call.text)),
         Verb::Get => place(image.get(call.place, call.long())),
         Verb::FirstKey => number(image.first_key(call.place)),
         Verb::LastKey => number(image.last_key(call.place)),

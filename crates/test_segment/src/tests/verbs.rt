@@ -51,6 +51,7 @@ pub(crate) enum Verb {
     NextKey,
     NumUnique,
     NumberBytes,
+    PairBytes,
     PopBack,
     PopFront,
     Previous,
@@ -78,7 +79,7 @@ pub(crate) enum Verb {
 }
 
 // Each call with its word.
-static VERBS: [(&str, Verb); 72] = [
+static VERBS: [(&str, Verb); 73] = [
     ("all_memory_deallocated", Verb::AllMemoryDeallocated),
     ("append", Verb::Append),
     ("assign", Verb::Assign),
@@ -127,6 +128,7 @@ static VERBS: [(&str, Verb); 72] = [
     ("next_key", Verb::NextKey),
     ("num_unique", Verb::NumUnique),
     ("number_bytes", Verb::NumberBytes),
+    ("pair_bytes", Verb::PairBytes),
     ("pop_back", Verb::PopBack),
     ("pop_front", Verb::PopFront),
     ("previous", Verb::Previous),
