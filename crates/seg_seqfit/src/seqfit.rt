@@ -33,6 +33,8 @@ impl Fit for SeqFit {
         set_size(w, HEAP_START, units, false);
     }
 
+    // Inlined: a call would take a fifth of its instructions.
+    #[inline(always)]
     fn allocate<A: Allocator>(w: &mut Window<A>, need: u32) -> Option<BlockAt> {
         let Found { link, block, next } = first_fit(w, need)?;
         let units = granted(block.units, need);

@@ -103,6 +103,7 @@ impl Pending {
 
     /// Adds the block that a cell points to. For a list or a map this is one node, which points to others. A frozen
     /// object is released instead.
+    #[inline(always)]
     fn add_cell<F: Fit, A: Allocator>(&mut self, heap: &mut Heap<F, A>, cell: Place)
         ensures window { KeepsHost heap.old.window heap.new.window }
         ensures types { heap.new.types ≡ heap.old.types }
