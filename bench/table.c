@@ -6,7 +6,7 @@
 
 static const char *const NAME = "table";
 enum { NUMBER, MAP };
-enum { BATCH = 64 };
+enum { BATCH = 64, KEY = 8, VALUE = 8 };
 
 static uint8_t *memory;
 static size_t memory_len;
@@ -89,7 +89,7 @@ static void update(const int64_t *keys, long count, int singly)
     }
 }
 
-static int64_t sum_values(long count)
+static int64_t sum_by_entries(long count)
 {
     int64_t sum = 0;
     lezgauri_entry entries[BATCH];
@@ -103,6 +103,21 @@ static int64_t sum_values(long count)
             sum += number;
         }
         after = &entries[found - 1].key;
+    }
+    return sum;
+}
+
+/* A flat map shows its keys and values in place. */
+static int64_t sum_pairs(long count)
+{
+    int64_t sum = 0;
+    lezgauri_bytes pairs;
+    succeed(lezgauri_pairs(segment, map, &pairs));
+    need((size_t)count <= pairs.len / (KEY + VALUE), "pairs");
+    for (long i = 0; i < count; i++) {
+        int64_t number;
+        memcpy(&number, pairs.bytes + (KEY + VALUE) * i + KEY, sizeof number);
+        sum += number;
     }
     return sum;
 }
@@ -128,7 +143,7 @@ static void check(void)
 
 /* One pass over what a check has to read, without any test but what leads to the next byte: the header of each block in order of
  * positions; then each entry of the map in order of the keys, with the header of its block. docs/FORMATS.md has the positions. */
-enum { UNIT = 16, HEAP = 704, ALLOCATED_BIT = 31, KEY = 8, VALUE = 8, TREE_FIELDS = 16, RIGHT = 4, NULL_DISTANCE = 1 };
+enum { UNIT = 16, HEAP = 704, ALLOCATED_BIT = 31, TREE_FIELDS = 16, RIGHT = 4, NULL_DISTANCE = 1 };
 
 static uint32_t word_at(size_t at)
 {
@@ -210,8 +225,8 @@ static int64_t pass_flat(void)
 }
 
 static const table TABLES[] = {
-    {"lezgauri-tree", 0, build_tree, open_table, look_up, update, sum_values, sum_singly, check, pass_tree, close_table},
-    {"lezgauri-flat", 1, build_flat, open_table, look_up, update, sum_values, sum_singly, check, pass_flat, close_table},
+    {"lezgauri-tree", 0, build_tree, open_table, look_up, update, sum_by_entries, NULL, sum_singly, check, pass_tree, close_table},
+    {"lezgauri-flat", 1, build_flat, open_table, look_up, update, sum_pairs, sum_by_entries, sum_singly, check, pass_flat, close_table},
 };
 
 int main(int count, char **words)

@@ -29,6 +29,7 @@ typedef struct table {
     int64_t (*look_up)(const int64_t *keys, long count);          /* the sum of their values */
     void (*update)(const int64_t *keys, long count, int singly);  /* keys[i] gets i; singly: a transaction for each, if there are any */
     int64_t (*sum)(long count);                                   /* of the values of the least keys, in the order of keys */
+    int64_t (*sum_by_entries)(long count);                        /* the same by calls that return several entries, or null */
     int64_t (*sum_singly)(long count);                            /* the same by a call for each key, or null */
     void (*check)(void);                                          /* null if the library has no check */
     int64_t (*pass)(void);                                        /* reads what the check has to read, once: the sum of the values; or null */
@@ -144,8 +145,9 @@ static usage used(void)
 }
 
 /* The works, beside the building of the file. */
-typedef enum work_kind { OPEN, READ, LOOK_UP, UPDATE, UPDATE_SINGLY, SUM, SUM_SINGLY, CHECK, PASS } work_kind;
-static const char *const WORK_NAMES[] = {"open", "read", "look-up", "update", "update-singly", "sum", "sum-singly", "check", "pass"};
+typedef enum work_kind { OPEN, READ, LOOK_UP, UPDATE, UPDATE_SINGLY, SUM, SUM_BY_ENTRIES, SUM_SINGLY, CHECK, PASS } work_kind;
+static const char *const WORK_NAMES[] = {"open", "read",           "look-up",    "update", "update-singly",
+                                         "sum",  "sum-by-entries", "sum-singly", "check",  "pass"};
 
 /* Does the work, on an open table unless it is to open it. Both ways to open also look up one key. */
 static int64_t do_work(const table *t, work_kind kind, const char *file, const int64_t *keys, long count)
@@ -163,6 +165,9 @@ static int64_t do_work(const table *t, work_kind kind, const char *file, const i
         return 0;
     case SUM:
         return t->sum(count);
+    case SUM_BY_ENTRIES:
+        need(t->sum_by_entries != NULL, "a sum by several entries");
+        return t->sum_by_entries(count);
     case SUM_SINGLY:
         need(t->sum_singly != NULL, "a sum by a call for each key");
         return t->sum_singly(count);

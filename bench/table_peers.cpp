@@ -278,15 +278,15 @@ static void close() { munmap(memory, len); }
 
 template <class Map> static table boost_table(const char* name, int sorted) {
     using B = boosts::Boost<Map>;
-    return {name, sorted, B::build, B::open, B::look_up, B::update, B::sum, nullptr, boosts::check, nullptr, boosts::close};
+    return {name, sorted, B::build, B::open, B::look_up, B::update, B::sum, nullptr, nullptr, boosts::check, nullptr, boosts::close};
 }
 
 static const table TABLES[] = {
     boost_table<boosts::Tree>("boost-tree", 0),
     boost_table<boosts::Flat>("boost-flat", 1),
-    {"lmdb", 0, lmdb::build, lmdb::open, lmdb::look_up, lmdb::update, lmdb::sum, nullptr, nullptr, nullptr, lmdb::close},
-    {"sqlite", 0, sqlite::build, sqlite::open, sqlite::look_up, sqlite::update, sqlite::sum, nullptr, sqlite::check, nullptr, sqlite::close},
-    {"flatbuffers", 1, buffers::build, buffers::open, buffers::look_up, buffers::update, buffers::sum, nullptr, buffers::check, nullptr, buffers::close},
+    {"lmdb", 0, lmdb::build, lmdb::open, lmdb::look_up, lmdb::update, lmdb::sum, nullptr, nullptr, nullptr, nullptr, lmdb::close},
+    {"sqlite", 0, sqlite::build, sqlite::open, sqlite::look_up, sqlite::update, sqlite::sum, nullptr, nullptr, sqlite::check, nullptr, sqlite::close},
+    {"flatbuffers", 1, buffers::build, buffers::open, buffers::look_up, buffers::update, buffers::sum, nullptr, nullptr, buffers::check, nullptr, buffers::close},
 };
 
 int main(int count, char** words) { return table_main(TABLES, sizeof TABLES / sizeof *TABLES, count, words); }
