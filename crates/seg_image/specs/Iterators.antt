@@ -6,7 +6,7 @@
 --                                  a position, if there is one, is where the item before an index is
 --     HasReturned segment U count iterator n
 --                                  it has returned the first n of `count` items of type U
---     keys_after keys last         the keys above the last one, or all if there is none
+--     keys_after keys last         the keys above the last one, or all before the first one came
 --     HasKeysLeft segment keys iterator left
 --                                  of these keys it has `left` to return, and its cursor is valid
 --     NamesNext, ItemsNext, KeysNext, EntriesNext

@@ -29,7 +29,11 @@ returns-clause-fills c sound same =
     (λ b t p. WhereMap b t map (λ U keys vs blocks. IfOk filled (λ count. FillsEntries b t map U keys (keys_after keys after) old new count))) (λ p. c.fill-returned.ensures.fills) sound same in
     let none = on_image image reader.view.bytes.now c.args.types.now (types_in reader) bytes_is table_is
     (λ b t p. IfErr filled (λ code. has_keys (form_at t map.type_id) ≡ false)) (λ p. c.fill-returned.ensures.some) sound same in
-    let is : WhereMap image table map (λ U keys vs blocks. (c.tell.result ≡ 0) × FillsEntries image table map U keys (keys_after keys after) old new c.tell.new.value) =
-    λ U keys vs blocks form stands. tells_filled (form_at table map.type_id) U c.tell.result c.tell.new.value filled (FillsEntries image table map U keys (keys_after keys after) old new) form none c.tell.ensures.told (fills U keys vs blocks form stands) in
-    subst (λ (place : Place). WhereMap image table place (λ U keys vs blocks. (c.tell.result ≡ 0) × FillsEntries image table place U keys (keys_after keys (then_some c.args.is_after c.args.after)) old new c.tell.new.value)) c.place_at-map.ensures
-    (subst (λ (o : Option ℤ). WhereMap image table map (λ U keys vs blocks. (c.tell.result ≡ 0) × FillsEntries image table map U keys (keys_after keys o) old new c.tell.new.value)) (c.then_some-after.ensures ∙ ap (then_some c.args.is_after) (to_z-of_z w64 c.args.after c.ranges.after)) is)
+    let Told : Place → Option ℤ → Type 0 =
+    λ place last. WhereMap image table place (λ U keys vs blocks. (c.tell.result ≡ 0) × FillsEntries image table place U keys (keys_after keys last) old new c.tell.new.value) in
+    let told : Told map after =
+    λ U keys vs blocks form stands.
+        let claim = FillsEntries image table map U keys (keys_after keys after) old new in
+        tells_filled (form_at table map.type_id) U c.tell.result c.tell.new.value filled claim form none c.tell.ensures.told (fills U keys vs blocks form stands) in
+    let last_is = c.then_some-after.ensures ∙ ap (then_some c.args.is_after) (to_z-of_z w64 c.args.after c.ranges.after) in
+    subst (λ (place : Place). Told place (then_some c.args.is_after c.args.after)) c.place_at-map.ensures (subst (λ (last : Option ℤ). Told map last) last_is told)
