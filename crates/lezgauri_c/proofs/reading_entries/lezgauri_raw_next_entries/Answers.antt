@@ -33,7 +33,7 @@ returns-clause-fills c sound same =
     λ place last. WhereMap image table place (λ U keys vs blocks. (c.tell.result ≡ 0) × FillsEntries image table place U keys (keys_after keys last) old new c.tell.new.value) in
     let told : Told map after =
     λ U keys vs blocks form stands.
-        let claim = FillsEntries image table map U keys (keys_after keys after) old new in
-        tells_filled (form_at table map.type_id) U c.tell.result c.tell.new.value filled claim form none c.tell.ensures.told (fills U keys vs blocks form stands) in
+    let claim = FillsEntries image table map U keys (keys_after keys after) old new in
+    tells_filled (form_at table map.type_id) U c.tell.result c.tell.new.value filled claim form none c.tell.ensures.told (fills U keys vs blocks form stands) in
     let last_is = c.then_some-after.ensures ∙ ap (then_some c.args.is_after) (to_z-of_z w64 c.args.after c.ranges.after) in
     subst (λ (place : Place). Told place (then_some c.args.is_after c.args.after)) c.place_at-map.ensures (subst (λ (last : Option ℤ). Told map last) last_is told)
