@@ -85,10 +85,10 @@ enum {
 
 /* The most bytes of stack that a call touches. */
 enum {
-    LEZGAURI_STACK_CHECK = 32 * 1024, /* lezgauri_check, lezgauri_verify, lezgauri_run, lezgauri_open, lezgauri_open_in, lezgauri_read */
-    LEZGAURI_STACK_RUN = 20 * 1024,   /* all other calls */
+    LEZGAURI_STACK_CHECK = 34 * 1024, /* lezgauri_check, lezgauri_verify, lezgauri_run, lezgauri_open, lezgauri_open_in, lezgauri_read */
+    LEZGAURI_STACK_RUN = 22 * 1024,   /* all other calls */
     LEZGAURI_STACK_TEXT = 40 * 1024,  /* lezgauri_assemble, lezgauri_print */
-    LEZGAURI_STACK_READ = 12 * 1024,  /* lezgauri_reader, lezgauri_store, the calls from lezgauri_find to lezgauri_content */
+    LEZGAURI_STACK_READ = 13 * 1024,  /* lezgauri_reader, lezgauri_store, the calls from lezgauri_find to lezgauri_content */
     LEZGAURI_STACK_SAVE = 4 * 1024    /* lezgauri_save, lezgauri_size, lezgauri_image, lezgauri_types, lezgauri_close, lezgauri_client_close, the
                                        * calls that return a text */
 };
