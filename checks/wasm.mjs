@@ -45,6 +45,11 @@ function command(...words) {
   return { status: ran.status, out: ran.stdout, err: ran.stderr, file };
 }
 
+/** What segtool prints, without the last line of `verify --explain` on a program: the page doesn't compare clients with programs. */
+function withoutMeaning(text) {
+  return text.replace(/^meaning (not )?shown\n$/m, "");
+}
+
 /** Compares an answer with what segtool prints and writes. On its error output `warnings` come first. */
 function same(answer, words, label, warnings = "") {
   const { status, out, err, file } = command(...words, "--explain");
@@ -52,7 +57,7 @@ function same(answer, words, label, warnings = "") {
   const isDone = answer.status === 0;
   assert.equal(status, isDone ? 0 : 1, place);
   if (answer.status !== ABSENT) {
-    assert.equal(decoded(out), isDone ? decoded(answer.text) : "", place);
+    assert.equal(withoutMeaning(decoded(out)), isDone ? decoded(answer.text) : "", place);
     assert.equal(decoded(err), isDone ? warnings : warnings + decoded(answer.text), place);
   }
   if (!isDone && answer.status !== ABSENT && answer.status !== WRONG) {
