@@ -6,6 +6,8 @@ pub mod SliceMemory
 pub use Rattle.client_vm.proofs.TogetherLaws
 -- an image that is the whole region of its window
 pub use Rattle.seg_image.proofs.WholeRegionLaws
+-- numbers that were appended to a vector
+pub use Rattle.seg_image.proofs.NumberPushLaws
 -- an image keeps its size
 pub use Rattle.client_sim.proofs.ImageSizeLaws
 -- named and unique objects stay where they are

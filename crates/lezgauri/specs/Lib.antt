@@ -19,6 +19,7 @@ pub use Rattle.seg_image.specs.Places
 pub use Rattle.seg_image.specs.Owners
 pub use Rattle.seg_image.specs.Iterators
 pub use Rattle.seg_image.specs.TypeLists
+pub use Rattle.seg_image.specs.NumberPushes
 pub use Rattle.seg_image.specs.Forms
 pub use Rattle.seg_image.specs.Faults
 pub use Rattle.seg_image.specs.Stored
@@ -51,6 +52,7 @@ pub use Rattle.client_vm.specs.ReadyClients
 pub use Rattle.seg_raw.specs.declared.fault.Fault
 pub use Rattle.seg_raw.specs.declared.code.Code
 pub use Rattle.seg_image.specs.declared.error.Error
+pub use Rattle.seg_image.specs.declared.error.PushStopped
 -- runs: `run`, and `run_bytes` with `run_image`
 pub use Rattle.client_vm.specs.Runs
 pub use Rattle.client_vm.specs.Jobs

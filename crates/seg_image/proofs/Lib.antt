@@ -4,3 +4,4 @@ pub mod NamedItems
 pub mod PutContent
 pub mod IteratorLaws
 pub mod TypeListLaws
+pub mod NumberPushLaws

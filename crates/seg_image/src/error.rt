@@ -26,6 +26,24 @@ impl fmt::Display for Error {
 
 impl std::error::Error for Error {}
 
+/// Why not all numbers were appended to a vector. Those before the one that was refused are in the vector.
+#[derive(Debug, Clone, Copy, PartialEq, Eq)]
+pub struct PushStopped {
+    /// How many numbers were appended.
+    pub pushed: usize,
+    /// Why the next one wasn't: `BadAlloc` if there is no room.
+    pub code: Code,
+}
+
+impl fmt::Display for PushStopped {
+    fn fmt<W: fmt::Write>(&self, f: &mut fmt::Formatter<W>) -> fmt::Result {
+        let PushStopped { pushed, code } = self;
+        write!(f, "only {pushed} numbers were appended: {code}")
+    }
+}
+
+impl std::error::Error for PushStopped {}
+
 impl From<Fault> for Error {
     ghost from_gives = { λ fault made. made ≡ error.Fault fault };
 

@@ -26,7 +26,7 @@ mod values;
 
 pub use checked::CheckedImage;
 pub use creating::AllocatorKind;
-pub use error::Error;
+pub use error::{Error, PushStopped};
 pub use image::Image;
 pub use iterators::{Entries, Items, Keys, Names};
 pub use opening::{Unopened, check};

@@ -1,4 +1,4 @@
-ghost use Rattle.std.specs.Prelude.{◌≡◌, ◌≢◌, ℕ, ◌+◌, ◌-◌, ◌≤◌, false, true, List, [], ◌∷◌, ◌++◌, length, take, None, Some, Err, IsOk, IfOk, IsOkUnless, MatchResult, suc};
+ghost use Rattle.std.specs.Prelude.{◌≡◌, ◌≢◌, ℕ, ◌+◌, ◌-◌, ◌≤◌, false, true, List, [], ◌∷◌, ◌++◌, length, take, None, Some, Err, IsOk, IfOk, IfErr, OnOk, IsOkUnless, MatchResult, suc};
 ghost use Rattle.seg_spec.specs.Block.{has_buffer};
 ghost use Rattle.seg_spec.specs.Calls.{Refuses};
 ghost use Rattle.seg_spec.specs.Demand.{block_for};
@@ -7,19 +7,23 @@ ghost use Rattle.seg_spec.specs.Reads.{count_at};
 ghost use Rattle.seg_spec.specs.Shrinking.{ShrinksPlace};
 ghost use Rattle.seg_spec.specs.Types.{Form, form_at, size};
 ghost use Rattle.seg_spec.specs.Value.{Value, Values, Text, nil, cons, count, append, default_of};
+ghost use Rattle.seg_spec.specs.Window.{KeepsHost};
 ghost use Rattle.seg_value.specs.CellPlaces.{place_of};
 ghost use Rattle.seg_seq.specs.Kinds.{is_sequence, HasNumbers};
 ghost use Rattle.seg_seq.specs.Lists.{HasList, IsNoList, AddsItem, LosesItem};
 ghost use Rattle.seg_seq.specs.Sequences.{HasText, HasItems, item_type, Declines, HasNone, ComesToHold, LacksRoom, Rewrites, push_asks, PushesNumber, PushesBack, PopsBack};
 ghost use Rattle.seg_image.specs.Images.{segment_of, allocator_of, bytes_in, types_of, ChangesBytes};
+ghost use Rattle.seg_image.specs.NumberPushes.{PushesNumbers, StopsPushing};
 ghost use Rattle.seg_image.specs.Places.{found_position, StandsIn};
 
+use crate::error::PushStopped;
 use crate::image::{Image, on};
 use crate::places::{item_type_at, placed, type_at};
 use seg_layout::Type;
+use seg_manager::Fit;
 use seg_raw::Code;
 use seg_seq::{Numbers, append, assign, pop_back, pop_front, push_back, push_front};
-use seg_value::Place;
+use seg_value::{Heap, Place};
 use std::alloc::Allocator;
 
 /// Strings.
@@ -101,6 +105,19 @@ impl<A: Allocator> Image<A> {
             (segment_of self.new) (place_of vector.vector) number result }
     {
         on!(self, segment => vector.push(segment.heap_mut(), number))
+    }
+
+    /// Adds numbers at the end of a vector of numbers, one after another. If there is no room for one of them, those
+    /// before it stay, and [`PushStopped`] tells how many they are. The numbers of the vector may move, so earlier
+    /// places in it become invalid.
+    pub fn push_numbers(&mut self, vector: Numbers, numbers: &[i64]) -> Result<(), PushStopped>
+        ensures bytes { ChangesBytes self.old self.new }
+        ensures all { OnOk result (PushesNumbers (allocator_of self.old) (segment_of self.old)
+            (segment_of self.new) (place_of vector.vector) numbers.now) }
+        ensures some { IfErr result (StopsPushing (allocator_of self.old) (segment_of self.old)
+            (segment_of self.new) (place_of vector.vector) numbers.now) }
+    {
+        on!(self, segment => push_each(segment.heap_mut(), vector, numbers))
     }
 
     /// Adds a default item at the front of a list. `OtherType` if the place isn't a list, `BadAlloc` if there is no
@@ -197,4 +214,25 @@ impl<A: Allocator> Image<A> {
         on!(self, segment => segment.heap_mut().shrink_to_fit(container));
         Ok(())
     }
+}
+
+/// Appends numbers to a vector, one after another, up to the first for which there is no room.
+fn push_each<F: Fit, A: Allocator>(
+    heap: &mut Heap<F, A>,
+    vector: Numbers,
+    numbers: &[i64],
+) -> Result<(), PushStopped>
+    ensures window { KeepsHost heap.old.window heap.new.window }
+    ensures types { heap.new.types ≡ heap.old.types }
+    ensures all { OnOk result (PushesNumbers F.allocator heap.old heap.new
+        (place_of vector.vector) numbers.now) }
+    ensures some { IfErr result (StopsPushing F.allocator heap.old heap.new
+        (place_of vector.vector) numbers.now) }
+{
+    for (pushed, number) in numbers.iter().enumerate() {
+        if let Err(code) = vector.push(heap, *number) {
+            return Err(PushStopped { pushed, code });
+        }
+    }
+    Ok(())
 }
