@@ -10,7 +10,7 @@ use Rattle.seg_spec.specs.Sound.{Picture}
 use Rattle.seg_spec.specs.Images.{IsSound, StaysHeld}
 use Rattle.seg_spec.specs.Roots.{IsReached, ChangesPlace}
 use Rattle.seg_spec.specs.Types.{Form, form_at, size}
-use Rattle.seg_spec.specs.Value.{Value, Values, Text, Seq, Map, Full, nil, cons, count, nth, append, default_of, same_int}
+use Rattle.seg_spec.specs.Value.{Value, Values, Int, Text, Seq, Map, Full, nil, cons, count, nth, append, default_of, same_int}
 use Rattle.seg_spec.specs.Items.{key_place, keys_below, without_last, insert_nth, remove_nth, with_entry, without_entry}
 use Rattle.seg_spec.specs.Heap.{Span}
 use Rattle.seg_spec.specs.Window.{Placement}
@@ -18,18 +18,18 @@ use Rattle.seg_spec.specs.Block.{block_of, has_buffer}
 use Rattle.seg_spec.specs.Calls.{Refuses}
 use Rattle.seg_spec.specs.Demand.{Ask, block_for}
 use Rattle.seg_spec.specs.Clearing.{BesideShared, LosesPart}
-use Rattle.seg_spec.specs.Shared.{names_in, named_in}
+use Rattle.seg_spec.specs.Shared.{names_in, names_each, named_in}
 use Rattle.seg_spec.proofs.Frozen.CellBoundLaws.{counts_within}
 use Rattle.seg_spec.proofs.Frozen.CountDecreaseLaws.{named_positions}
-use Rattle.seg_spec.proofs.Frozen.PartCountLaws.{SameNames, names_same, names_then, default_names}
-use Rattle.seg_spec.proofs.Frozen.ValueCellLaws.{names_text, names_seq, names_map, names_full, front_named, back_named, insert_named, remove_named, last_named}
+use Rattle.seg_spec.proofs.Frozen.PartCountLaws.{SameNames, names_same, names_then, names_cons, default_names}
+use Rattle.seg_spec.proofs.Frozen.ValueCellLaws.{names_int, names_text, names_seq, names_map, names_full, front_named, back_named, insert_named, remove_named, last_named}
 use Rattle.seg_spec.proofs.Images.ReachedPlaceLaws.{FoundPlace, found_place, stays_changed, stays_cleared, stays_released, stays_shared, shared_there, frozen_there, cells_below}
 use Rattle.seg_spec.proofs.Values.FormValueLaws.{text_held, vector_held, list_held, MapHeld, flat_map_held, map_held}
 use Rattle.client_spec.proofs.Rows.RuleRowLaws.{nth_below}
 use Rattle.seg_raw.specs.declared.code.Code.{Code}
-use Rattle.seg_seq.specs.Kinds.{is_sequence}
+use Rattle.seg_seq.specs.Kinds.{is_sequence, HasNumbers}
 use Rattle.seg_seq.specs.Lists.{AddsItem, LosesItem}
-use Rattle.seg_seq.specs.Sequences.{item_type, Declines, HasNone, ComesToHold, LacksRoom, Rewrites, push_asks, PushesBack, PopsBack}
+use Rattle.seg_seq.specs.Sequences.{HasItems, item_type, Declines, HasNone, ComesToHold, LacksRoom, Rewrites, push_asks, PushesBack, PopsBack}
 use Rattle.seg_manager.specs.Segments.{one_value}
 use Rattle.std_alloc.specs.declared.vec.lodged.Lodged.{Lodged}
 use Rattle.lezgauri.specs.Place.{Place}
@@ -38,12 +38,27 @@ use Rattle.lezgauri.specs.EitherMap.{has_keys, IsMapOf, key_asks, KeepsKeysBut}
 use Rattle.lezgauri.specs.Maps.{PutsKey, RemovesKey}
 use Rattle.lezgauri.specs.Owners.{PutsNew, AreShared}
 use Rattle.lezgauri.specs.Places.{found_position, object_type}
+use Rattle.lezgauri.specs.NumberPushes.{number_values, PushesNumbers, StopsPushing}
+use Rattle.lezgauri.specs.PushStopped.{PushStopped}
+use Rattle.lezgauri.proofs.NumberPushLaws.{appended, appended_first}
 use Rattle.lezgauri.specs.Image.{Image}
 use Rattle.lezgauri.specs.Images.{segment_of, allocator_of, bytes_in, types_of, IsOpen}
 use Rattle.lezgauri_c.specs.declared.kept_types.KeptTypes.{KeptTypes}
-use Rattle.lezgauri_c.specs.Changes.{Calls, IsStillSound, StaysSound, StaysSoundFrom}
-use Rattle.lezgauri_c.specs.Values.{table_in}
-use Rattle.lezgauri_c.specs.ImageChanges.{Assigns, Appends, PushesItemBack, PushesItemFront, PopsItem, PopsItemFront, Puts, Removes, PutsContent, Shares, Clears, ShrinksBuffer}
+use Rattle.lezgauri_c.specs.Changes.{Calls, GivesPushed, TellsPushed, IsStillSound, StaysSound, StaysSoundFrom}
+use Rattle.lezgauri_c.specs.Values.{table_in, OnSound}
+use Rattle.lezgauri_c.specs.ImageChanges.{Assigns, Appends, PushesItemBack, PushesItemFront, PushesItems, PopsItem, PopsItemFront, Puts, Removes, PutsContent, Shares, Clears, ShrinksBuffer}
+
+-- ---- numbers share no object
+
+numbers_named : (numbers : List ℤ) → names_each (number_values numbers) ≡ []
+unfolding names_each
+numbers_named [] = refl
+numbers_named (n ∷ ns) = front_named (Int n) (number_values ns) (names_int n) ∙ numbers_named ns
+
+append_named : (vs ws : Values) → names_each ws ≡ [] → names_each (append vs ws) ≡ names_each vs
+unfolding names_each
+append_named nil ws none = none
+append_named (cons v vs) ws none = names_cons v (append vs ws) ∙ ap (λ xs. names_in v ++ xs) (append_named vs ws none) ∙ sym (names_cons v vs)
 
 -- ---- from a call on an open image to the bytes in lent memory
 
@@ -84,6 +99,15 @@ module _ {R : Type 0} {old new : List ℕ} {types : KeptTypes} {status : ℕ} {t
       left_sound sound same (λ opened left returned is is_open it.
       stays opened left returned it sound.picture is_open (subst (λ (b : List ℕ). IsReached b sound.picture (place_of from)) (sym is) other)
       (subst (λ (b : List ℕ). IsReached b sound.picture (place_of to)) (sym is) reached))
+
+-- numbers for a place that isn't a vector of numbers
+pub tells_no_vector : {old new : List ℕ} {types : KeptTypes} {status pushed n : ℕ} {place : Place} {numbers : List ℤ} → GivesPushed old new types status pushed n (PushesItems place numbers)
+    → OnSound old types (λ picture. ¬ HasNumbers picture.table place.type_id → (status ≡ 114) × (pushed ≡ 0) × (new ≡ old))
+tells_no_vector {status = status} {pushed = pushed} {n = n} {place = place} given sound same none =
+    let on = given.on_image sound same in
+    let there : ¬ HasNumbers (types_of on.opened) place.type_id = subst (λ t. ¬ HasNumbers t place.type_id) (sym on.is_open.table_is) none in
+    let it = on.called.2.other there in
+    let told = subst (TellsPushed status pushed n) it.0 on.called.1 in (told.0, told.1, sym on.left_is ∙ ap (λ (i : Image Lodged). bytes_in i) it.1 ∙ on.opened_is)
 
 module _ {A : Type 0} (opened left : Image A) (place : Place) (picture : Picture) (is_open : IsOpen opened picture) (reached : IsReached (bytes_in opened) picture (place_of place)) where
   abbrev Found : Value → Type 0
@@ -214,6 +238,36 @@ module _ {A : Type 0} (opened left : Image A) (place : Place) (picture : Picture
       by_form : (o : Option Form) → form ≡ o → Left
       by_form (Some (Form.list U)) is = let f = list_found U is in list U f.0 f.1 r (it.pushed U f.0 f.1.blocks (record { form_is = is; stands = f.1.stands }))
       by_form o is = same (it.other (λ U list. cc)).1
+
+  -- numbers were added
+  numbers_added : (vs : Values) (numbers : List ℤ) → names_in (Seq vs) ≡ names_in (Seq (append vs (number_values numbers)))
+  numbers_added vs numbers = names_seq vs ∙ sym (append_named vs (number_values numbers) (numbers_named numbers)) ∙ sym (names_seq (append vs (number_values numbers)))
+
+  pub push_numbers_stays : (numbers : List ℤ) (r : Result (Unit {0}) PushStopped) → PushesItems place numbers opened left r → Left
+  push_numbers_stays numbers r it = by_form form refl
+    where
+      vector : (U : ℕ) (vs : Values) (f : Found (Seq vs)) → HasItems (allocator_of opened) (segment_of opened) (place_of place) U vs f.blocks → form_at (types_of opened) U ≡ Some Form.i64 → (r : Result (Unit {0}) PushStopped)
+          → MatchResult r (λ _. PushesNumbers (allocator_of opened) (segment_of opened) (segment_of left) (place_of place) numbers)
+          (StopsPushing (allocator_of opened) (segment_of opened) (segment_of left) (place_of place) numbers) → Left
+      vector U vs f has number (Ok done) pushed =
+          let a = appended (allocator_of opened) (segment_of opened) (segment_of left) (place_of place) numbers pushed U vs f.blocks has number in
+          changed f (Seq (append vs (number_values numbers))) a.others (numbers_added vs numbers) a.changes
+      vector U vs f has number (Err stopped) stops =
+          let first = take stopped.pushed numbers in
+          let it = appended_first (allocator_of opened) (segment_of opened) (segment_of left) (place_of place) numbers stopped stops U vs f.blocks has number in
+          let a = it.appends in
+          changed f (Seq (append vs (number_values first))) a.others (numbers_added vs first)
+          (subst (λ (b : List ℕ). ChangesPlace (bytes_in opened) b (types_of opened) (place_of place) (Seq (append vs (number_values first))) a.others a.spans f.blocks a.others) (sym it.same) a.changes)
+
+      by_item : (U : ℕ) → form ≡ Some (Form.vec U) → (o : Option Form) → form_at (types_of opened) U ≡ o → Left
+      by_item U is (Some Form.i64) number =
+          let f = vector_found U is in
+          vector U f.0 f.1 (record { form_is = is; stands = f.1.stands }) number r (it.pushed (record { item = U; vector_is = is; number_is = number }))
+      by_item U is o other = image_same (it.other (λ has. let v = has.vector_is in let n = has.number_is in cc)).1
+
+      by_form : (o : Option Form) → form ≡ o → Left
+      by_form (Some (Form.vec U)) is = by_item U is (form_at (types_of opened) U) refl
+      by_form o is = image_same (it.other (λ has. let v = has.vector_is in cc)).1
 
   -- an item was removed
   last_lost : (vs : Values) (v : Value) → nth vs (count vs - 1) ≡ Some v → SameNames (names_in (Seq vs)) (names_in v ++ names_in (Seq (without_last vs)))

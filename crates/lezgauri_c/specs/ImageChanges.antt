@@ -3,7 +3,7 @@
 -- it (`ChangesBytes`).
 --     Constructs, FindsOrConstructs, DestroysNamed
 --     ConstructsUnique, FindsOrConstructsUnique, DestroysUnique
---     Assigns, Appends, PushesItemBack, PushesItemFront, PopsItem, PopsItemFront
+--     Assigns, Appends, PushesItemBack, PushesItemFront, PushesItems, PopsItem, PopsItemFront
 --     Puts, Removes, PutsContent, FreezesInto, Shares
 --     ConstructsAnonymous, DestroysAnonymous, Clears, ShrinksBuffer
 use Rattle.std.specs.Prelude.{◌≡◌, ◌≢◌, ◌+◌, ◌-◌, ◌<◌, ◌≤◌, ◌^◌, ℕ, suc, ℤ, List, [], ◌∷◌, ◌++◌, length, take, Bool, true, false, Some, None, Result, Err, IsOk, IsTrue, IfOk, IsOkUnless, MatchResult, is_ok}
@@ -31,7 +31,7 @@ use Rattle.seg_raw.specs.declared.code.Code.{Code}
 use Rattle.seg_raw.specs.declared.code.Code.TheVariants as code
 use Rattle.lezgauri.specs.Place.{Place}
 use Rattle.lezgauri.specs.CellPlaces.{place_of, object_at}
-use Rattle.seg_seq.specs.Kinds.{is_sequence}
+use Rattle.seg_seq.specs.Kinds.{is_sequence, HasNumbers}
 use Rattle.seg_seq.specs.Lists.{HasList, IsNoList, AddsItem, LosesItem}
 use Rattle.seg_seq.specs.Sequences.{HasText, HasItems, item_type, Declines, HasNone, ComesToHold, LacksRoom, Rewrites, push_asks, PushesBack, PopsBack}
 use Rattle.lezgauri.specs.EitherMap.{has_keys, IsMapOf, key_asks, KeepsTreePaths, KeepsKeysBut}
@@ -40,6 +40,8 @@ use Rattle.seg_manager.specs.Segments.{one_value, MakesLoose, LosesLoose, unique
 use Rattle.seg_manager.specs.NamedObjects.{found_as, IsMissing, IsCount, RefusesName, FindsOrMakesNamed, RefusesToFind}
 use Rattle.seg_manager.specs.NewNamed.{MakesNamed, FindsNoRoom}
 use Rattle.seg_manager.specs.LeavingNamed.{LosesNamed}
+use Rattle.lezgauri.specs.NumberPushes.{PushesNumbers, StopsPushing}
+use Rattle.lezgauri.specs.PushStopped.{PushStopped}
 use Rattle.lezgauri.specs.Image.{Image}
 use Rattle.lezgauri.specs.Images.{segment_of, allocator_of, bytes_in, types_of, IsOpen, ChangesBytes}
 use Rattle.lezgauri.specs.Owners.{PutsNew, OwnAndShared, AreShared, FreezesOwn}
@@ -187,6 +189,19 @@ pub record PushesItemFront {A : Type 0} (place : Place) (old new : Image A)
       (block_for (8 + size (types_of old) U) ∷ []))
   pub other : IsNoList (types_of old) place.type_id →
       (found_position result ≡ Err code.OtherType) × (bytes_in new ≡ bytes_in old)
+
+-- numbers were appended to a vector of numbers, all or the first ones
+pub record PushesItems {A : Type 0} (place : Place) (numbers : List ℤ) (old new : Image A)
+    (result : Result (Unit {0}) PushStopped) : Type 0 where
+  pub bytes : ChangesBytes old new
+  pub pushed : HasNumbers (types_of old) place.type_id →
+      MatchResult result
+      (λ _. PushesNumbers (allocator_of old) (segment_of old) (segment_of new) (place_of place)
+      numbers)
+      (StopsPushing (allocator_of old) (segment_of old) (segment_of new) (place_of place)
+      numbers)
+  pub other : ¬ HasNumbers (types_of old) place.type_id →
+      (result ≡ Err (record { pushed = 0; code = code.OtherType })) × (new ≡ old)
 
 pub record PopsItem {A : Type 0} (place : Place) (old new : Image A)
     (result : Result (Unit {0}) Code) : Type 0 where

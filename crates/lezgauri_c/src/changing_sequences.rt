@@ -1,14 +1,19 @@
-ghost use Rattle.std.specs.Prelude.{◌≡◌, ◌<◌};
-ghost use Rattle.lezgauri_c.specs.Changes.{place_at, GivesPlace, IsDone, StaysSound};
-ghost use Rattle.lezgauri_c.specs.ImageChanges.{Assigns, Appends, PushesItemBack, PushesItemFront, PopsItem, PopsItemFront};
+ghost use Rattle.std.specs.Prelude.{◌≡◌, ◌<◌, ◌≤◌, length};
+ghost use Rattle.seg_seq.specs.Kinds.{HasNumbers};
+ghost use Rattle.lezgauri_c.specs.Changes.{place_at, type_number, GivesPlace, GivesPushed, IsDone, StaysSound, TellsPushed};
+ghost use Rattle.lezgauri_c.specs.ImageChanges.{Assigns, Appends, PushesItemBack, PushesItemFront, PushesItems, PopsItem, PopsItemFront};
 ghost use Rattle.lezgauri_c.specs.Memory.{memory_of};
-ghost use Rattle.lezgauri_c.specs.Values.{table_in};
+ghost use Rattle.lezgauri_c.specs.Values.{table_in, OnSound};
 
 use crate::changing::{done, give, on_image, place_at};
 use crate::kept_types::KeptTypes;
 use crate::lent::Lent;
 use crate::place::Place;
+use crate::status::{OK, code_status};
+use lezgauri::{Image, PushStopped};
+use seg_value::Place as ValuePlace;
 use std::alloc::Global;
+use std_alloc::vec::Lodged;
 
 /// Replaces the bytes of the string at a place of an image that an earlier call found sound, or changed. Fails as `Image::assign` does;
 /// then nothing changes.
@@ -72,6 +77,69 @@ pub extern "C" fn lezgauri_raw_push_back(
     let sequence = place_at(at, type_id);
     let pushed = on_image!(alloc, image, types, opened => opened.image.push_back(sequence));
     give(pushed, item)
+}
+
+/// Adds numbers at the end of the vector of numbers at a place, one after another, and gives how many were added. If there is no room
+/// for one of them, those before it stay. Returns the status for `OtherType` if the place isn't a vector of numbers; then nothing
+/// changes.
+#[unsafe(no_mangle)]
+pub extern "C" fn lezgauri_raw_push_numbers(
+    alloc: Global,
+    image: &mut Lent,
+    types: &mut KeptTypes,
+    at: u32,
+    type_id: u32,
+    numbers: &[i64],
+    pushed: &mut usize,
+) -> u32
+    ensures pushes { GivesPushed image.old.bytes image.new.bytes types.old result pushed.new
+        (length numbers.now) (PushesItems (place_at at type_id) numbers.now) }
+    ensures other { OnSound image.old.bytes types.old (λ picture.
+        ¬ HasNumbers picture.table (type_number type_id) →
+        (result ≡ 114) × (pushed.new ≡ 0) × (image.new.bytes ≡ image.old.bytes)) }
+    ensures all { result ≡ 0 → pushed.new ≡ length numbers.now }
+    ensures none { (0 < result) × (result ≤ 100) → pushed.new ≡ 0 }
+    ensures sound { StaysSound image.old.bytes image.new.bytes types.old (place_at at type_id) }
+    ensures home { memory_of image.new ≡ memory_of image.old }
+    ensures same { table_in types.new ≡ table_in types.old }
+{
+    *pushed = 0;
+    let vector = place_at(at, type_id);
+    let returned =
+        on_image!(alloc, image, types, opened => push_numbers(&mut opened.image, vector, numbers));
+    give_pushed(returned, numbers.len(), pushed)
+}
+
+/// Adds numbers at the end of the vector of numbers at a place.
+fn push_numbers(
+    image: &mut Image<Lodged>,
+    place: ValuePlace,
+    numbers: &[i64],
+) -> Result<(), PushStopped>
+    ensures { PushesItems place numbers.now image.old image.new result }
+{
+    match image.numbers(place) {
+        Ok(vector) => image.push_numbers(vector, numbers),
+        Err(code) => Err(PushStopped { pushed: 0, code }),
+    }
+}
+
+/// Gives the caller how many of the numbers were added, and returns `OK`, or returns the status for the code of the first that wasn't.
+fn give_pushed(returned: Result<(), PushStopped>, len: usize, pushed: &mut usize) -> u32
+    ensures told { TellsPushed result pushed.new len returned }
+    ensures number { 0 < result → 110 < result }
+    ensures all { result ≡ 0 → pushed.new ≡ len }
+{
+    match returned {
+        Ok(()) => {
+            *pushed = len;
+            OK
+        }
+        Err(stopped) => {
+            *pushed = stopped.pushed;
+            code_status(stopped.code)
+        }
+    }
 }
 
 /// Adds a default item at the front of the list at a place, and gives the item's place. Fails as `Image::push_front` does; then nothing
