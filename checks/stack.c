@@ -275,6 +275,9 @@ static void *open_reader(void *given)
     return NULL;
 }
 
+/* Numbers that are added to a vector. */
+static const int64_t several[100];
+
 /* A call on the segment with values. */
 #define CALL(name, call)                                                                                                                \
     static void *name(void *given)                                                                                                      \
@@ -304,6 +307,7 @@ CALL(assign, lezgauri_assign(of->values, of->place[TEXT], "text", 4))
 CALL(append, lezgauri_append(of->values, of->place[TEXT], "text", 4))
 CALL(text_of, lezgauri_text(of->values, of->place[TEXT], &bytes))
 CALL(push_number, lezgauri_push_back(of->values, of->place[NUMBERS], &place))
+CALL(push_numbers, lezgauri_push_numbers(of->values, of->place[NUMBERS], several, 100, &count))
 CALL(numbers_of, lezgauri_numbers(of->values, of->place[NUMBERS], &bytes))
 CALL(push_front, lezgauri_push_front(of->values, of->place[LIST], &place))
 CALL(push_back, lezgauri_push_back(of->values, of->place[LIST], &of->place[MAP]))
@@ -377,6 +381,7 @@ static const struct {
     {"lezgauri_append", append, LEZGAURI_STACK_RUN},
     {"lezgauri_text", text_of, LEZGAURI_STACK_READ},
     {"lezgauri_push_back", push_number, LEZGAURI_STACK_RUN},
+    {"lezgauri_push_numbers", push_numbers, LEZGAURI_STACK_RUN},
     {"lezgauri_numbers", numbers_of, LEZGAURI_STACK_READ},
     {"lezgauri_push_front", push_front, LEZGAURI_STACK_RUN},
     {"lezgauri_push_back", push_back, LEZGAURI_STACK_RUN},

@@ -448,6 +448,12 @@ static void vectors(lezgauri_handle *handle)
     expect("numbers of a number", lezgauri_numbers(handle, field, &bytes), LEZGAURI_OTHER_TYPE);
     expect("pairs of a vector", lezgauri_pairs(handle, vector, &bytes), LEZGAURI_OTHER_TYPE);
     expect("pairs of structs", lezgauri_pairs(handle, pairs, &bytes), LEZGAURI_OTHER_TYPE);
+    size_t pushed = 7;
+    expect("push numbers to structs", lezgauri_push_numbers(handle, pairs, &(int64_t){1}, 1, &pushed), LEZGAURI_OTHER_TYPE);
+    expect("push numbers to structs: how many", pushed, 0);
+    pushed = 7;
+    expect("push no numbers to a string", lezgauri_push_numbers(handle, field, NULL, 0, &pushed), LEZGAURI_OTHER_TYPE);
+    expect("push no numbers to a string: how many", pushed, 0);
     is_sound("vector: sound", handle);
     done("clear", lezgauri_clear(handle, pairs));
     expect("clear: len", len_of(handle, pairs), 0);
@@ -881,6 +887,54 @@ static void growing(void)
     lezgauri_close(handle);
 }
 
+/* Numbers are added by calls of several ones, until the segment is out of memory, and then the others after it has grown. */
+static void pushing(void)
+{
+    enum { COUNT = 1000, MORE = 37 };
+    static int64_t given[COUNT];
+    lezgauri_handle *handle = NULL;
+    lezgauri_place vector, item;
+    lezgauri_bytes bytes;
+    size_t pushed = 7, all = 0;
+    uint32_t shorts = 0;
+    for (int i = 0; i < COUNT; i++) {
+        given[i] = i % 3 == 0 ? INT64_MIN + i : i % 3 == 1 ? INT64_MAX - i : -i;
+    }
+    done("create", lezgauri_create(PAGE, LEZGAURI_BEST_FIT, LEZGAURI_TREE_INDEX, &handle));
+    done("add types", lezgauri_add_types(handle, table, TYPES, NULL));
+    done("construct", lezgauri_construct(handle, "vector", NUMBERS, 1, &vector));
+    done("push no numbers", lezgauri_push_numbers(handle, vector, NULL, 0, &pushed));
+    expect("push no numbers: how many", pushed, 0);
+    done("push no numbers", lezgauri_push_numbers(handle, vector, NULL, 0, NULL));
+    expect("push no numbers: len", len_of(handle, vector), 0);
+    while (all < COUNT) {
+        size_t count = COUNT - all < MORE ? COUNT - all : MORE;
+        pushed = COUNT;
+        uint32_t status = lezgauri_push_numbers(handle, vector, given + all, count, &pushed);
+        bool is_short = status == LEZGAURI_BAD_ALLOC && pushed < count;
+        expect("push numbers", is_short || (status == LEZGAURI_OK && pushed == count), 1);
+        all += pushed;
+        expect("push numbers: len", len_of(handle, vector), all);
+        is_sound("push numbers: sound", handle);
+        if (is_short) {
+            shorts++;
+            expect("push back, no room", lezgauri_push_back(handle, vector, &item), LEZGAURI_BAD_ALLOC);
+            pushed = 7;
+            expect("push numbers, no room", lezgauri_push_numbers(handle, vector, given + all, 1, &pushed), LEZGAURI_BAD_ALLOC);
+            expect("push numbers, no room: how many", pushed, 0);
+            expect("push numbers, no room", lezgauri_push_numbers(handle, vector, given + all, 1, NULL), LEZGAURI_BAD_ALLOC);
+            done("grow", lezgauri_grow(handle, PAGE / 4, NULL));
+        }
+    }
+    expect("push numbers: out of memory", shorts > 0, 1);
+    done("numbers", lezgauri_numbers(handle, vector, &bytes));
+    expect("push numbers: length", bytes.len, 8 * COUNT);
+    for (int i = 0; i < COUNT && bytes.len == 8 * COUNT; i++) {
+        expect("push numbers: a number", number_in(bytes.bytes + 8 * i), (uint64_t)given[i]);
+    }
+    lezgauri_close(handle);
+}
+
 /* ---- each call with the same arguments */
 
 /* The arguments of a call. Each call uses some of them. */
@@ -973,6 +1027,11 @@ static uint32_t make_store(const given *g) { return lezgauri_store(g->handle, g-
 static uint32_t make_assign(const given *g) { return lezgauri_assign(g->handle, g->place, "some bytes", g->index % 11); }
 static uint32_t make_append(const given *g) { return lezgauri_append(g->handle, g->place, "some bytes", g->index % 11); }
 static uint32_t make_push_back(const given *g) { return lezgauri_push_back(g->handle, g->place, g->result); }
+static uint32_t make_push_numbers(const given *g)
+{
+    static const int64_t numbers[] = {INT64_MIN, -1, 0, 1, INT64_MAX};
+    return lezgauri_push_numbers(g->handle, g->place, numbers, g->index % 6, NULL);
+}
 static uint32_t make_push_front(const given *g) { return lezgauri_push_front(g->handle, g->place, g->result); }
 static uint32_t make_pop_back(const given *g) { return lezgauri_pop_back(g->handle, g->place); }
 static uint32_t make_pop_front(const given *g) { return lezgauri_pop_front(g->handle, g->place); }
@@ -1037,6 +1096,7 @@ static const call calls[] = {
     {"assign", make_assign, 0, 1, false, true},
     {"append", make_append, 0, 1, false, true},
     {"push back", make_push_back, RETURNS(lezgauri_place), false, true},
+    {"push numbers", make_push_numbers, 0, 1, false, true},
     {"push front", make_push_front, RETURNS(lezgauri_place), false, true},
     {"pop back", make_pop_back, 0, 1, false, true},
     {"pop front", make_pop_front, 0, 1, false, true},
@@ -1214,6 +1274,39 @@ static void arguments(void)
     expect("next entries, refused: as before", entries[0].key == 0 && entries[2].key == 0 && *count == 7, 1);
     done("next entries, up to the count", lezgauri_next_entries(handle, places[MAP], NULL, entries, BATCH, count));
     expect("next entries, up to the count", entries[0].key == 0 && entries[1].key == 10 && entries[2].key == 20 && *count == 3, 1);
+    struct {
+        int64_t numbers[3];
+        size_t count;
+    } several_numbers = {{1, 2, 3}, 7};
+    int64_t *numbers = several_numbers.numbers;
+    size_t *pushed = &several_numbers.count;
+    lezgauri_place vector = places[NUMBERS];
+    expect("push numbers, no segment", lezgauri_push_numbers(NULL, vector, numbers, 3, pushed), LEZGAURI_BAD_ARGUMENT);
+    expect("push numbers, null and a count", lezgauri_push_numbers(handle, vector, NULL, 1, pushed), LEZGAURI_BAD_ARGUMENT);
+    expect("push numbers that aren't aligned", lezgauri_push_numbers(handle, vector, (int64_t *)((char *)numbers + 4), 1, pushed),
+           LEZGAURI_BAD_ARGUMENT);
+    expect("push numbers, a count that isn't aligned",
+           lezgauri_push_numbers(handle, vector, numbers, 1, (size_t *)((char *)pushed + 4)), LEZGAURI_BAD_ARGUMENT);
+    static const size_t counts[] = {SIZE_MAX, SIZE_MAX / 8 + 2, PTRDIFF_MAX / 8 + 1};
+    for (size_t i = 0; i < sizeof counts / sizeof *counts; i++) {
+        expect("push too many numbers", lezgauri_push_numbers(handle, vector, numbers, counts[i], pushed), LEZGAURI_BAD_ARGUMENT);
+    }
+    expect("push numbers, the count in the last one",
+           lezgauri_push_numbers(handle, vector, numbers, 3, (size_t *)&numbers[2]), LEZGAURI_BAD_ARGUMENT);
+    expect("push numbers, the last one is the count", lezgauri_push_numbers(handle, vector, numbers, 4, pushed),
+           LEZGAURI_BAD_ARGUMENT);
+    expect("push numbers of the segment", lezgauri_push_numbers(handle, vector, (int64_t *)(memory + 704), 1, pushed), LEZGAURI_BAD_ARGUMENT);
+    expect("push numbers, the last one in the segment", lezgauri_push_numbers(handle, vector, (int64_t *)(memory - 8), 2, pushed),
+           LEZGAURI_BAD_ARGUMENT);
+    expect("push numbers of the handle", lezgauri_push_numbers(handle, vector, (int64_t *)handle, 1, pushed), LEZGAURI_BAD_ARGUMENT);
+    expect("push numbers, the count in the segment", lezgauri_push_numbers(handle, vector, numbers, 3, (size_t *)(memory + 704)),
+           LEZGAURI_BAD_ARGUMENT);
+    expect("push numbers, the count in the handle", lezgauri_push_numbers(handle, vector, numbers, 3, (size_t *)handle),
+           LEZGAURI_BAD_ARGUMENT);
+    expect("push numbers, refused: as before", numbers[0] == 1 && numbers[1] == 2 && numbers[2] == 3 && *pushed == 7, 1);
+    expect("push numbers, refused: len", len_of(handle, vector), 10);
+    done("push numbers, up to the count", lezgauri_push_numbers(handle, vector, numbers, 3, pushed));
+    expect("push numbers, up to the count", *pushed == 3 && len_of(handle, vector) == 13, 1);
     lezgauri_fault fault = {.number = 7};
     expect("add types, null and a count", lezgauri_add_types(handle, NULL, 1, &fault), LEZGAURI_BAD_ARGUMENT);
     expect("add types, null and a count: number", fault.number, LEZGAURI_BAD_ARGUMENT);
@@ -1652,6 +1745,7 @@ int main(void)
     }
     types();
     growing();
+    pushing();
     arguments();
     broken_images();
     invalid_changes();

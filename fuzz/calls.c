@@ -20,6 +20,7 @@ enum {
     CHECK_EACH = 8,
     KEPT_CLIENTS = 2,
     MOST_TEXT = 300,
+    MOST_NUMBERS = 40,
     BATCH = 4
 };
 
@@ -39,6 +40,7 @@ enum operation {
     ASSIGN,
     APPEND,
     PUSH_BACK,
+    PUSH_NUMBERS,
     PUSH_FRONT,
     POP_BACK,
     POP_FRONT,
@@ -160,6 +162,7 @@ static uint32_t kinds_of(enum operation operation)
     case ASSIGN:
     case APPEND: return STR;
     case PUSH_BACK: return VEC | LIST;
+    case PUSH_NUMBERS: return VEC;
     case PUSH_FRONT:
     case POP_FRONT: return LIST;
     case POP_BACK: return STR | VEC | LIST;
@@ -291,6 +294,29 @@ static uint32_t make(side *at, const call *it, lezgauri_place place, lezgauri_pl
     }
     case APPEND: return lezgauri_append(h, place, text, it->number % MOST_TEXT);
     case PUSH_BACK: return lezgauri_push_back(h, place, &made);
+    case PUSH_NUMBERS: {
+        int64_t numbers[MOST_NUMBERS];
+        uint32_t before, after, count = it->number % MOST_NUMBERS;
+        size_t pushed = MOST_NUMBERS;
+        for (uint32_t i = 0; i < count; i++) {
+            numbers[i] = (int64_t)((uint64_t)it->key + i % 3);
+        }
+        bool has_len = lezgauri_len(h, place, &before) == LEZGAURI_OK;
+        status = lezgauri_push_numbers(h, place, numbers, count, &pushed);
+        NEED(pushed == (status == LEZGAURI_OK ? count : 0) || (status == LEZGAURI_BAD_ALLOC && pushed < count),
+             "%zu of %u numbers are pushed with %u", pushed, count, status);
+        if (has_len && lezgauri_len(h, place, &after) == LEZGAURI_OK) {
+            NEED(after == before + pushed, "a vector has %u items after %zu were pushed to %u", after, pushed, before);
+        }
+        if (status == LEZGAURI_OK && count > 0) {
+            lezgauri_bytes bytes;
+            NEED(lezgauri_numbers(h, place, &bytes) == LEZGAURI_OK && bytes.len >= count * sizeof *numbers &&
+                     memcmp(bytes.bytes + bytes.len - count * sizeof *numbers, numbers, count * sizeof *numbers) == 0,
+                 "other numbers are pushed");
+        }
+        *result = pushed;
+        return status;
+    }
     case PUSH_FRONT: return lezgauri_push_front(h, place, &made);
     case POP_BACK: return lezgauri_pop_back(h, place);
     case POP_FRONT: return lezgauri_pop_front(h, place);
@@ -366,9 +392,9 @@ static uint32_t make(side *at, const call *it, lezgauri_place place, lezgauri_pl
 }
 
 /* A call of this kind may change the segment's objects to a part although it fails. */
-static bool runs_in_place(enum operation operation)
+static bool may_do_a_part(enum operation operation)
 {
-    return operation == RUN_ON || operation == RUN_PREPARED;
+    return operation == RUN_ON || operation == RUN_PREPARED || operation == PUSH_NUMBERS;
 }
 
 /* Makes a call with each request for memory refused in turn, and at last with none. */
@@ -523,7 +549,7 @@ static void make_on_all(const call *it, bool refuses, bool compares)
         }
         if (compares) {
             need_sound(at, it);
-            if (status[i] != LEZGAURI_OK && !runs_in_place(it->operation)) {
+            if (status[i] != LEZGAURI_OK && !may_do_a_part(it->operation)) {
                 NEED(hash_objects(at->handle) == before, "call %d fails with %u and changes an object", it->operation,
                      status[i]);
             }

@@ -135,6 +135,8 @@ uint32_t lezgauri_raw_store(uint8_t *image, size_t len, kept_types *types, uint3
 uint32_t lezgauri_raw_assign(lent *image, kept_types *types, uint32_t at, uint32_t type, const uint8_t *bytes, size_t len);
 uint32_t lezgauri_raw_append(lent *image, kept_types *types, uint32_t at, uint32_t type, const uint8_t *bytes, size_t len);
 uint32_t lezgauri_raw_push_back(lent *image, kept_types *types, uint32_t at, uint32_t type, lezgauri_place *item);
+uint32_t lezgauri_raw_push_numbers(lent *image, kept_types *types, uint32_t at, uint32_t type, const int64_t *numbers, size_t count,
+                                   size_t *pushed);
 uint32_t lezgauri_raw_push_front(lent *image, kept_types *types, uint32_t at, uint32_t type, lezgauri_place *item);
 uint32_t lezgauri_raw_pop_back(lent *image, kept_types *types, uint32_t at, uint32_t type);
 uint32_t lezgauri_raw_pop_front(lent *image, kept_types *types, uint32_t at, uint32_t type);
@@ -1452,6 +1454,24 @@ static uint32_t make_part(lezgauri_handle *handle, lezgauri_place whole, lezgaur
 uint32_t lezgauri_push_back(lezgauri_handle *handle, lezgauri_place sequence, lezgauri_place *item)
 {
     return make_part(handle, sequence, item, lezgauri_raw_push_back);
+}
+
+uint32_t lezgauri_push_numbers(lezgauri_handle *handle, lezgauri_place vector, const int64_t *numbers, size_t count, size_t *pushed)
+{
+    lent image;
+    size_t unread;
+    bool are_numbers = may_be(numbers, count, sizeof *numbers, _Alignof(int64_t));
+    span from = one(numbers, are_numbers ? count * sizeof *numbers : 0);
+    span to = one(pushed, sizeof *pushed);
+    bool is_allowed = handle != NULL && are_numbers && may_tell(pushed, _Alignof(size_t)) && is_outside(handle, from.at, from.len) &&
+                      is_outside(handle, to.at, to.len) && !overlap(from, to);
+    size_t *told = is_allowed && pushed != NULL ? pushed : &unread;
+    *told = 0;
+    uint32_t status = begin_values(handle, is_allowed, &image);
+    if (status != LEZGAURI_OK) {
+        return status;
+    }
+    return end(handle, lezgauri_raw_push_numbers(&image, &handle->types, vector.at, vector.type, or_empty(numbers), count, told));
 }
 
 uint32_t lezgauri_push_front(lezgauri_handle *handle, lezgauri_place list, lezgauri_place *item)

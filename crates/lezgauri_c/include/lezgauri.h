@@ -4,10 +4,10 @@
  * and their text. Lengths and positions are in bytes, unless stated otherwise.
  *
  * Status: a call that can fail returns LEZGAURI_OK, the number of a fault, or one of the numbers from 100 on below. After a fault,
- * LEZGAURI_BAD_ARGUMENT or LEZGAURI_BUSY nothing ran, and the caller's memory is unchanged except *fault, *written, *needed, *handle and
- * *prepared. A call on a value changes nothing unless it returns LEZGAURI_OK. No call aborts, unwinds, prints, or reads or writes beyond
- * the lengths that it is given. A call takes memory from malloc and frees it before it returns, except the memory of an open segment and
- * of a prepared client. LEZGAURI_MEMORY means that malloc refused.
+ * LEZGAURI_BAD_ARGUMENT or LEZGAURI_BUSY nothing ran, and the caller's memory is unchanged except *fault, *written, *needed, *handle,
+ * *prepared and *pushed. A call on a value changes nothing unless it returns LEZGAURI_OK, except lezgauri_push_numbers. No call aborts,
+ * unwinds, prints, or reads or writes beyond the lengths that it is given. A call takes memory from malloc and frees it before it returns,
+ * except the memory of an open segment and of a prepared client. LEZGAURI_MEMORY means that malloc refused.
  *
  * Tested by each call: null pointers with a length other than 0, lengths above PTRDIFF_MAX, pointers to numbers or structs that
  * aren't aligned, and overlap of what the call writes (numbers and structs that it returns, reports, an output, a saved image, an open
@@ -538,6 +538,13 @@ uint32_t lezgauri_append(lezgauri_handle *handle, lezgauri_place string, const v
 
 /* Adds a default item at the end of a vector or list, and returns its place. LEZGAURI_BAD_ALLOC. */
 uint32_t lezgauri_push_back(lezgauri_handle *handle, lezgauri_place sequence, lezgauri_place *item);
+
+/*
+ * Adds `count` numbers at the end of a vector of i64, one after another. If there is no room for one of them, those before it stay, and
+ * the call returns LEZGAURI_BAD_ALLOC. With any other status but LEZGAURI_OK it adds none. *pushed is how many were added;
+ * LEZGAURI_BAD_ARGUMENT may leave it as it was. `pushed` may be null, and so may `numbers` if `count` is 0.
+ */
+uint32_t lezgauri_push_numbers(lezgauri_handle *handle, lezgauri_place vector, const int64_t *numbers, size_t count, size_t *pushed);
 
 /* Adds a default item at the front of a list, and returns its place. LEZGAURI_BAD_ALLOC. */
 uint32_t lezgauri_push_front(lezgauri_handle *handle, lezgauri_place list, lezgauri_place *item);
