@@ -824,6 +824,26 @@ static void values()
     using read = lz::basic_value<Policy, const lezgauri_handle>;
     static_assert(std::is_convertible_v<changed, read> && !std::is_convertible_v<read, changed>);
 
+    const auto numbers = VALUE(segment.construct("pushed", NUMBERS));
+    const std::vector<std::int64_t> several = {5, -6, INT64_MAX};
+    std::size_t pushed = 7;
+    VALUE(numbers.push_numbers(several, &pushed));
+    expect("push numbers: how many", pushed == 3);
+    const std::int64_t more[] = {INT64_MIN, 8};
+    VALUE(numbers.push_numbers(more));
+    VALUE(numbers.push_numbers({more, 1}, &pushed));
+    VALUE(numbers.push_numbers({}));
+    const lz::numbers_view there = VALUE(numbers.numbers());
+    expect("push numbers", pushed == 1 && std::vector<std::int64_t>(there.begin(), there.end()) ==
+                                              std::vector<std::int64_t>{5, -6, INT64_MAX, INT64_MIN, 8, INT64_MIN});
+    // the segment has 16 KiB
+    const std::vector<std::int64_t> many(4096, 9);
+    REFUSED(image_fault(lz::status::bad_alloc), numbers.push_numbers(many, &pushed));
+    expect("push numbers: out of memory", pushed > 500 && pushed < many.size() && VALUE(numbers.size()) == 6 + pushed);
+    REFUSED(image_fault(lz::status::bad_alloc), numbers.push_numbers(several, &pushed));
+    expect("push numbers: no room", pushed == 0);
+    REFUSED(image_fault(lz::status::other_type), VALUE(segment.find("list", LIST)).push_numbers(several, &pushed));
+    VALUE(segment.destroy("pushed", NUMBERS));
     const auto list = VALUE(segment.find("list", LIST));
     const read seen = list;
     VALUE(list.pop_back());

@@ -224,9 +224,17 @@ class AlreadyExists(Refused, ValueError):
 
 
 class BadAlloc(Refused, MemoryError):
-    """BAD_ALLOC: the segment is out of memory: no free block is large enough. `Segment.grow` adds memory."""
+    """BAD_ALLOC: the segment is out of memory: no free block is large enough. `Segment.grow` adds memory.
+
+    added   how many items `extend` added before, which stay. None if another call raised this.
+    """
 
     number = Status.BAD_ALLOC
+    added: Optional[int] = None
+
+    def __str__(self) -> str:
+        told = super().__str__()
+        return told if self.added is None else f"{told} (items added before: {self.added})"
 
 
 class Absent(Refused, KeyError):

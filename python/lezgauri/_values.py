@@ -9,7 +9,7 @@ from ctypes import byref, c_int64, c_size_t, c_uint32
 from typing import TYPE_CHECKING, Any, Callable, Dict, Iterable, Iterator, List as ListOf, Optional, Tuple, Type as TypeOf, Union
 
 from ._buffers import Buffer, View
-from ._errors import Absent, BadArgument, Frozen, NoValue, OutOfRange
+from ._errors import Absent, BadAlloc, BadArgument, Frozen, NoValue, OutOfRange
 from ._handles import Closeable, handle_of
 from ._library import CBytes, CEntry, CPlace, library, refuse
 from .types import Kind, Type
@@ -28,6 +28,9 @@ _INDEXES = range(2**32)
 
 # The entries that a loop over a map gets by one call if the segment is open only for reading.
 _BATCH = 256
+
+# The numbers that `extend` adds by one call.
+_NUMBERS_AT_ONCE = 4096
 
 
 def _as_key(key: Any) -> int:
@@ -308,10 +311,14 @@ class _Growing(_Items, _Sized):
         _add(self.add, value, self._drop)
 
     def extend(self, values: Iterable[Any]) -> None:
-        """Adds items at the end. Raises BadAlloc; then the items before are added."""
+        """Adds items at the end. Raises BadAlloc; then the items before are added, and its attribute `added` is how many they are."""
         with Kept() as kept:
-            for value in plain(values, kept):
-                self.append(value)
+            for added, value in enumerate(plain(values, kept)):
+                try:
+                    self.append(value)
+                except BadAlloc as error:
+                    error.added = added
+                    raise
 
     def __iadd__(self, values: Iterable[Any]) -> Any:
         self.extend(values)
@@ -346,6 +353,38 @@ class Vector(_Growing):
         after it the view has unspecified numbers. While it exists, `Segment.grow` raises BufferError. Raises OtherType if the items
         aren't numbers."""
         return self._numbers(library().lezgauri_numbers)
+
+    def extend(self, values: Iterable[Any]) -> None:
+        """Adds items at the end. Raises BadAlloc; then the items before are added, and its attribute `added` is how many they are.
+        Numbers are added many by one call, so up to 4096 of them are taken from `values` before they are added."""
+        if not self._has_numbers():
+            super().extend(values)
+            return
+        added = 0
+        with Kept() as kept:
+            left = map(_as_number, plain(values, kept))
+            is_more = True
+            while is_more:
+                numbers = array.array("q")
+                try:
+                    numbers.extend(itertools.islice(left, _NUMBERS_AT_ONCE))
+                finally:
+                    # also those before a value that isn't a number
+                    self._push(numbers, added)
+                added += len(numbers)
+                is_more = len(numbers) == _NUMBERS_AT_ONCE
+
+    def _push(self, numbers: "array.array[int]", before: int) -> None:
+        """Adds numbers at the end, after those that an `extend` added before."""
+        if not numbers:
+            return
+        pushed = c_size_t()
+        count = len(numbers)
+        try:
+            self._change(library().lezgauri_push_numbers, (c_int64 * count).from_buffer(numbers), count, byref(pushed))
+        except BadAlloc as error:
+            error.added = before + pushed.value
+            raise
 
     def __iter__(self) -> Iterator[Any]:
         # one call for all numbers

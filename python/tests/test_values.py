@@ -5,6 +5,7 @@ import contextlib
 import gc
 import itertools
 import mmap
+import operator
 import struct
 import tempfile
 import unittest
@@ -471,6 +472,54 @@ class VectorTest(ValueCase):
                 with self.assertRaises(error):
                     vector.append(wrong)
                 self.assertEqual(vector, [])
+
+    def test_extend(self):
+        for segment in self.segments(NUMBERS, size=1 << 18):
+            vector = segment.construct("v", NUMBERS)
+            vector.extend(number - 5000 for number in range(10000))
+            self.assertEqual(vector, list(range(-5000, 5000)))
+            vector.clear()
+            vector.extend(())
+            self.assertEqual(vector, [])
+            number = segment.construct("n", t.i64)
+            number.assign(LEAST)
+            vector.extend((MOST, number, True))
+            vector.extend(vector)
+            vector.extend(vector.numbers())
+            self.assertEqual(vector, [MOST, LEAST, 1] * 4)
+            for wrong, error in (("a", TypeError), (2.0, TypeError), (MOST + 1, OverflowError), (LEAST - 1, OverflowError)):
+                vector.clear()
+                with self.assertRaises(error):
+                    vector.extend([7, -7, wrong, 8])
+                self.assertEqual(vector, [7, -7])
+
+    def test_extend_out_of_memory(self):
+        """The items before stay, and the exception has their number."""
+        for segment in self.segments(NUMBERS, TEXTS, t.list(t.i64), size=2048):
+            for kind, item in ((NUMBERS, operator.neg), (t.list(t.i64), operator.neg), (TEXTS, lambda number: b"%d" % number)):
+                items = segment.construct("items", kind)
+                with self.assertRaises(lezgauri.BadAlloc) as caught:
+                    items.extend(map(item, range(1000)))
+                added = caught.exception.added
+                self.assertEqual(items, [item(number) for number in range(added)])
+                self.assertGreater(added, 20)
+                self.assertIn(f"(items added before: {added})", str(caught.exception))
+                with self.assertRaises(lezgauri.BadAlloc) as caught:
+                    items.append(item(1))
+                self.assertIsNone(caught.exception.added)
+                del segment["items"]
+            # as many as one by one
+            one_by_one = segment.construct("v", NUMBERS)
+            with self.assertRaises(lezgauri.BadAlloc):
+                for number in range(1000):
+                    one_by_one.append(number)
+            count = len(one_by_one)
+            del segment["v"]
+            vector = segment.construct("v", NUMBERS)
+            for added in (count, 0):
+                with self.assertRaises(lezgauri.BadAlloc) as caught:
+                    vector.extend(range(1000))
+                self.assertEqual((caught.exception.added, len(vector)), (added, count))
 
     def test_out_of_memory(self):
         for segment in self.segments(NUMBERS, TEXTS, size=2048):
@@ -1131,8 +1180,8 @@ class ReadTest(ValueCase):
                 lambda: segment.destroy_anonymous(number), lambda: segment.__delitem__("number"),
                 lambda: segment.__setitem__("number", 1), lambda: segment.grow(16), lambda: segment.shrink(),
                 lambda: number.assign(1), lambda: number.clear(), lambda: text.assign("x"), lambda: text.append("x"), lambda: text.pop(),
-                lambda: text.shrink_to_fit(), lambda: numbers.append(1), lambda: numbers.pop(), lambda: numbers.__setitem__(0, 1),
-                lambda: numbers.clear(), lambda: items.append(1), lambda: items.appendleft(1), lambda: items.pop(),
+                lambda: text.shrink_to_fit(), lambda: numbers.append(1), lambda: numbers.extend([1]),
+                lambda: numbers.pop(), lambda: numbers.__setitem__(0, 1), lambda: numbers.clear(), lambda: items.append(1), lambda: items.appendleft(1), lambda: items.pop(),
                 lambda: items.popleft(), lambda: tree.put(1), lambda: tree.__setitem__(1, (2, "x")), lambda: tree.__setitem__(9, (2, "x")),
                 lambda: tree.__delitem__(1), lambda: tree.clear(), lambda: user.assign((2, "x")), lambda: user.__setitem__(0, 1),
                 lambda: own.put_content(), lambda: own.assign(None), lambda: shared.freeze(own), lambda: shared.share(shared),
@@ -1207,7 +1256,8 @@ class ClosedTest(ValueCase):
         segment.close()
         for call in (
             lambda: number.value, lambda: number.assign(1), lambda: text.value, lambda: text.view(), lambda: text.append("a"),
-            lambda: len(text), lambda: vector[0], lambda: vector.numbers(), lambda: vector.append(1), lambda: vector.pop(),
+            lambda: len(text), lambda: vector[0], lambda: vector.numbers(), lambda: vector.append(1),
+            lambda: vector.extend([1]), lambda: vector.pop(),
             lambda: list(vector),
             lambda: items[0], lambda: items.appendleft(1), lambda: list(items), lambda: items.popleft(),
             lambda: table[1], lambda: table.put(1), lambda: list(table), lambda: table.first(), lambda: 1 in table, lambda: table.pairs(),

@@ -1140,6 +1140,14 @@ public:
         return detail::if_ok<Policy>(number, basic_value(handle_, made));
     }
 
+    // lezgauri_push_numbers: adds numbers at the end of a vector of i64, one after another. They aren't in the segment. If there is no room
+    // for one of them, those before it stay, and the call is refused with `bad_alloc`. *pushed is how many were added, also if the call is
+    // refused.
+    result<void> push_numbers(lezgauri::items<const std::int64_t> numbers, std::size_t *pushed = nullptr) const noexcept(Policy::is_noexcept)
+    {
+        return detail::done<Policy>(lezgauri_push_numbers(handle_, at_, numbers.data(), numbers.size(), pushed));
+    }
+
     // lezgauri_push_front: adds a default item at the front of a list, and returns it.
     result<basic_value> push_front() const noexcept(Policy::is_noexcept)
     {
