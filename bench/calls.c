@@ -124,13 +124,13 @@ static void save(void)
     succeed(lezgauri_save(segment, saved, sizeof saved, &written));
 }
 
-/* The segment for the calls on values. Its map has the keys 0 to 99, and its vector has room for 100 numbers. */
+/* The segment for the calls on values. Its map has the keys 0 to 99, and its vector has room for 100 numbers. A second vector has no buffer. */
 enum { NUMBER, STRING, VECTOR, MAP, TYPES };
 enum { KEYS = 100, KEY = 50, NEW_KEY = 1000, CAPACITY = 100 };
 static const char TEXT[] = "sixteen bytes...";
 static _Alignas(16) uint8_t memory[MOST_FILE];
 static lezgauri_handle *values;
-static lezgauri_place number, string, vector, map, place;
+static lezgauri_place number, string, vector, grown, map, place;
 static const uint8_t *mapped; /* the image, in a file that is mapped only for reading */
 static int64_t loaded;
 
@@ -147,6 +147,7 @@ static void start_values(void)
     succeed(lezgauri_construct(values, "x", NUMBER, 1, &number));
     succeed(lezgauri_construct(values, "map", MAP, 1, &map));
     succeed(lezgauri_construct(values, "numbers", VECTOR, 1, &vector));
+    succeed(lezgauri_construct(values, "grown", VECTOR, 1, &grown));
     succeed(lezgauri_construct(values, "string", STRING, 1, &string));
     for (int i = 0; i < KEYS; i++) {
         succeed(lezgauri_put(values, map, i, &place));
@@ -234,6 +235,13 @@ static void push_pop(void)
     succeed(lezgauri_pop_back(values, vector));
 }
 
+static void push_clear(void)
+{
+    static const int64_t numbers[CAPACITY] = {0};
+    succeed(lezgauri_push_numbers(values, grown, numbers, CAPACITY, &written));
+    succeed(lezgauri_clear(values, grown));
+}
+
 static void assign(void)
 {
     succeed(lezgauri_assign(values, string, TEXT, sizeof TEXT - 1));
@@ -279,6 +287,7 @@ static const work WORKS[] = {
     {"next_entries", next_entries},
     {"put, remove", put_remove},
     {"push_back, pop_back", push_pop},
+    {"push_numbers, clear", push_clear},
     {"assign", assign},
     {"text", text_of},
     {"construct, destroy", construct_destroy},

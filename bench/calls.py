@@ -53,13 +53,14 @@ VALUE_WORKS = [
     ("next_entries", None, ("boost-next", "lmdb-next")),
     ("put, remove", None, ("boost-put, erase", "lmdb-put, del", "sqlite-insert, delete")),
     ("push_back, pop_back", None, ("boost-push, pop",)),
+    ("push_numbers, clear", None, ("boost-insert, clear", "boost-push 100, clear")),
     ("assign", None, ("boost-assign",)),
     ("text", None, ()),
     ("construct, destroy", None, ("boost-construct, destroy",)),
 ]
 
-# how many entries a work of calls.c reads. Its row is for one entry, as are the peers' works
-ENTRIES = {"next_entries": 100}
+# how many entries a work reads, or numbers it adds. Its row is for one of them
+ENTRIES = {"next_entries": 100, "push_numbers, clear": 100, "boost-insert, clear": 100, "boost-push 100, clear": 100}
 
 # how often a work is repeated to measure its time
 TIMED = 5000
@@ -99,7 +100,7 @@ def main():
             times = least([partial(own_time, command, TIMED) for command in commands], words.time)
             for command, by, time in zip(commands, [*words.library, *peers], times):
                 name = f"{work} ({client})" if client else work
-                entries = ENTRIES.get(work, 1) if by in words.library else 1
+                entries = ENTRIES.get(work if by in words.library else by, 1)
                 count = 0 if words.no_count else own_count(command, COUNTED)
                 row(name, by[-22:], count / entries, time / entries)
 

@@ -33,7 +33,7 @@ alignas(4096) static char memory[1 << 16];
 static std::optional<Segment> segment;
 static Map* map;
 static Map::iterator at;
-static Vector* numbers;
+static Vector *numbers, *grown;
 static String* string;
 static volatile int64_t seen;
 
@@ -43,6 +43,7 @@ static void start() {
     segment->construct<int64_t>("x")(41);
     map = segment->construct<Map>("map")(std::less<int64_t>(), manager);
     numbers = segment->construct<Vector>("numbers")(manager);
+    grown = segment->construct<Vector>("grown")(manager);
     string = segment->construct<String>("string")(manager);
     for (int i = 0; i < KEYS; i++) map->emplace(i, i);
     at = map->find(KEY);
@@ -58,6 +59,20 @@ static void next() { seen = std::next(at)->first; }
 static void push_pop() {
     numbers->push_back(0);
     numbers->pop_back();
+}
+static const int64_t given[CAPACITY] = {};
+// without its buffer, as lezgauri_clear leaves a vector
+static void clear() {
+    grown->clear();
+    grown->shrink_to_fit();
+}
+static void insert_clear() {
+    grown->insert(grown->end(), std::begin(given), std::end(given));
+    clear();
+}
+static void push_each_clear() {
+    for (int64_t number : given) grown->push_back(number);
+    clear();
 }
 static void assign() { string->assign(TEXT, sizeof TEXT - 1); }
 static void construct_destroy() {
@@ -158,6 +173,8 @@ static const work WORKS[] = {
     {"boost-put, erase", boosts::put_remove},
     {"boost-next", boosts::next},
     {"boost-push, pop", boosts::push_pop},
+    {"boost-insert, clear", boosts::insert_clear},
+    {"boost-push 100, clear", boosts::push_each_clear},
     {"boost-assign", boosts::assign},
     {"boost-construct, destroy", boosts::construct_destroy},
     {"lmdb-get", lmdb::get},
