@@ -49,7 +49,8 @@ fn change_containers(alloc: Global, image: &mut Image<Global>, call: &Call) -> O
     Some(match call.verb {
         Verb::PushBack => place(image.push_back(call.place)),
         Verb::PushFront => place(image.push_front(call.place)),
-        Verb::PushNumbers => done(push_numbers(image, call)),
+        Verb::PushNumber => size(push_number(image, call)),
+        Verb::PushNumbers => done(push_numbers(alloc, image, call)),
         Verb::PopBack => done(image.pop_back(call.place)),
         Verb::PopFront => done(image.pop_front(call.place)),
         Verb::ShrinkToFit => done(image.shrink_to_fit(call.place)),
@@ -136,13 +137,24 @@ fn push_byte(image: &mut Image<Global>, call: &Call) -> Answer {
     })
 }
 
-/// Pushes the numbers of the call's text onto a vector.
-fn push_numbers(image: &mut Image<Global>, call: &Call) -> Result<(), Code> {
+/// Pushes a number onto a vector. Returns its position.
+fn push_number(image: &mut Image<Global>, call: &Call) -> Result<u32, Code> {
     let vector = image.numbers(call.place)?;
+    image.push_number(vector, call.long())
+}
+
+/// Pushes the numbers of the call's text onto a vector.
+fn push_numbers(alloc: Global, image: &mut Image<Global>, call: &Call) -> Result<(), Code> {
+    let vector = image.numbers(call.place)?;
+    let mut numbers = Vec::new(alloc);
     for word in call.text.split_whitespace() {
-        image.push_number(vector, word.parse().unwrap_or(0))?;
+        numbers
+            .push(word.parse().unwrap_or(0))
+            .map_err(|_| Code::BadAlloc)?;
     }
-    Ok(())
+    image
+        .push_numbers(vector, &numbers)
+        .map_err(|stopped| stopped.code)
 }
 
 /// The first key of a map. The segment remembers where it is.

@@ -216,7 +216,7 @@ shrink_to_fit L => type
 destroy l t3
 all_memory_deallocated
 
-; a vector has room for 4 numbers, and then, in place, for 8. After the fifth push it is cut to 5.
+; a vector has room for 4 numbers, and then, in place, for 8. After the fifth push it is cut to 5. The whole heap has room for 34.
 $ new 1024
 V = construct_unique t2
 push_front V => type
@@ -236,6 +236,15 @@ push_numbers V: 5 6 7 8 9 10 11 12 13 14 15 16 17 18 19 20
 len V => 16
 items V: 5 6 7 8 9 10 11 12 13 14 15 16 17 18 19 20
 number_bytes V: 5 6 7 8 9 10 11 12 13 14 15 16 17 18 19 20
+push_numbers V:
+push_numbers V: 21 22 23 24 25 26 27 28 29 30 31 32 33 34 35 36 37 38 39 40 => memory
+blocks: 704/2 736/18
+number_bytes V: 5 6 7 8 9 10 11 12 13 14 15 16 17 18 19 20 21 22 23 24 25 26 27 28 29 30 31 32 33 34 35 36 37 38
+push_number V 39 => memory
+pop_back V
+push_number V -39 => 1016
+N = item V 33
+load N => -39
 fault: sound
 ";
 

@@ -60,6 +60,7 @@ pub(crate) enum Verb {
     PushBack,
     PushByte,
     PushFront,
+    PushNumber,
     PushNumbers,
     Put,
     PutContent,
@@ -79,7 +80,7 @@ pub(crate) enum Verb {
 }
 
 // Each call with its word.
-static VERBS: [(&str, Verb); 73] = [
+static VERBS: [(&str, Verb); 74] = [
     ("all_memory_deallocated", Verb::AllMemoryDeallocated),
     ("append", Verb::Append),
     ("assign", Verb::Assign),
@@ -137,6 +138,7 @@ static VERBS: [(&str, Verb); 73] = [
     ("push_back", Verb::PushBack),
     ("push_byte", Verb::PushByte),
     ("push_front", Verb::PushFront),
+    ("push_number", Verb::PushNumber),
     ("push_numbers", Verb::PushNumbers),
     ("put", Verb::Put),
     ("put_content", Verb::PutContent),
