@@ -2,7 +2,8 @@
  * The target `calls`: random calls on four segments at once, with each allocator and each index. Two of the segments
  * are in memory from malloc, and two in lent memory, on which two handles take turns. A call has the same arguments on
  * all segments, with places that it finds by the same way through the objects. As long as no segment was out of memory,
- * statuses and values must agree, and so must all objects. Each image stays sound. A call that fails changes no object.
+ * statuses and values must agree, and so must all objects. Each image stays sound. A call that fails changes no object,
+ * except that numbers that were pushed before the segment was full stay.
  *
  * Some calls are made with each of their requests for host memory refused in turn: then the segment is unchanged.
  */
