@@ -33,6 +33,7 @@
 #include <cstdlib>
 #include <cstring>
 #include <string>
+#include <vector>
 
 namespace bi = boost::interprocess;
 
@@ -289,6 +290,21 @@ struct Pair {
                 } else if (any(8) == 0) {
                     expect(lezgauri_shrink_to_fit(ours.handle, place) == LEZGAURI_OK, "shrink a vector");
                     boost_makes([&] { it->shrink_to_fit(); });
+                } else if (any(4) == 0) {
+                    std::vector<int64_t> several(any(40), number);
+                    size_t pushed = several.size() + 1, made = 0;
+                    status = lezgauri_push_numbers(ours.handle, place, several.data(), several.size(), &pushed);
+                    boost_makes([&] {
+                        for (; made < several.size(); made++) it->push_back(several[made]);
+                    });
+                    if (status == LEZGAURI_OK) {
+                        expect(pushed == several.size(), "numbers that are pushed", pushed, several.size());
+                    } else {
+                        expect(status == LEZGAURI_BAD_ALLOC && pushed < several.size(), "push several numbers", status);
+                        note_out_of_memory(0, 32 * (it->size() + 1) + 4096);
+                    }
+                    for (; made > pushed; made--) it->pop_back();
+                    for (; pushed > made; pushed--) lezgauri_pop_back(ours.handle, place);
                 } else {
                     status = lezgauri_push_back(ours.handle, place, &inner);
                     bool made = boost_makes([&] { it->push_back(number); });
