@@ -30,6 +30,28 @@ fn search<S: SegmentRead>(source: &S, entry: Entry, cell: CellAt, key: i64) -> R
     })
 }
 
+/// Like [`search`], without a search if the key is above all others: tables are often built in the order of their keys.
+fn search_to_put<S: SegmentRead>(
+    source: &S,
+    entry: Entry,
+    cell: CellAt,
+    key: i64,
+) -> Result<u32, u32>
+    ensures { WhereMap Form.flat_map (S.allocator source.now) (S.stored source.now).window.bytes
+        (S.stored source.now).types cell
+        (λ T U keys vs blocks. IsEntryOf (S.stored source.now).types 8 U entry →
+        MatchResult result (λ index. key_place keys key ≡ Some index)
+        (λ index. (key_place keys key ≡ None) × (index ≡ keys_below keys key))) }
+{
+    let count = source.count(cell);
+    if let Some(last) = count.checked_sub(1)
+        && source.load(entry.at(source.start(cell), last)) < key
+    {
+        return Err(count);
+    }
+    search(source, entry, cell, key)
+}
+
 /// The position of a key's value.
 pub(crate) fn get<S: SegmentRead>(
     source: &S,
@@ -63,7 +85,7 @@ pub(crate) fn put<F: Fit, A: Allocator>(
         (object_at cell T) U keys vs key blocks
         (flat_asks heap.old.window.bytes heap.old.types cell U) (key_place keys key) result) }
 {
-    match search(heap, content.entry, cell, key) {
+    match search_to_put(heap, content.entry, cell, key) {
         Ok(index) => Ok(content.entry.value_at(heap.start(cell), index)),
         Err(index) => insert(heap, content, cell, index, key),
     }
