@@ -10,8 +10,8 @@ The difference, divided by the number of operations, is the cost of one. Callgri
 whatever else the machine does. A time is the shortest of ROUNDS rounds, in which client, base and peer run in turn. Short
 workloads are repeated to measure times, since the time of the rest of the program varies by a millisecond.
 
-The workloads of hosts have no client. The program BENCH_CALLS, which build.py makes (bench_calls), pushes numbers, or
-allocates and frees a block, by calls of the library. It runs for some passes and for twice as many, and the difference
+The workloads of hosts have no client. The program BENCH_CALLS, which build.py makes (bench_calls), pushes numbers, allocates
+and frees a block, or reads a map in order, by calls of the library. It runs for some passes and for twice as many, and the difference
 counts; so its loop counts too, like the peer's. Without --calls these workloads are left out.
 
 Needs valgrind, lua5.4, g++ and libboost-dev."""
@@ -74,6 +74,8 @@ class Host:
 HOSTS = {
     "push_host": Host({"best+tree": "push"}, "vec_push", 1000000, 10),
     "block_host": Host({"best+tree": "best", "seq+flat": "seq"}, "new_drop", 1000000, 2),
+    "entries_host": Host({"best+tree": "entries"}, "map_walk", 100000, 4),
+    "pairs_host": Host({"best+tree": "pairs"}, "flat_map_walk", 100000, 100),
 }
 
 
