@@ -124,13 +124,15 @@ static void save(void)
     succeed(lezgauri_save(segment, saved, sizeof saved, &written));
 }
 
-/* The segment for the calls on values. Its map has the keys 0 to 99, and its vector has room for 100 numbers. A second vector has no buffer. */
-enum { NUMBER, STRING, VECTOR, MAP, TYPES };
+/* The segment for the calls on values. Its map has the keys 0 to 99, and its vector has room for 100 numbers. A second vector has no buffer, and
+ * a flat map has no keys. */
+enum { NUMBER, STRING, VECTOR, MAP, FLAT_MAP, TYPES };
 enum { KEYS = 100, KEY = 50, NEW_KEY = 1000, CAPACITY = 100 };
 static const char TEXT[] = "sixteen bytes...";
 static _Alignas(16) uint8_t memory[MOST_FILE];
 static lezgauri_handle *values;
-static lezgauri_place number, string, vector, grown, map, place;
+static lezgauri_place number, string, vector, grown, map, flat, place;
+static lezgauri_pair pairs[CAPACITY];
 static const uint8_t *mapped; /* the image, in a file that is mapped only for reading */
 static int64_t loaded;
 
@@ -141,6 +143,7 @@ static void start_values(void)
         [STRING] = {.kind = LEZGAURI_KIND_STR},
         [VECTOR] = {.kind = LEZGAURI_KIND_VEC, .count = 1, .components = {NUMBER}},
         [MAP] = {.kind = LEZGAURI_KIND_MAP, .count = 1, .components = {NUMBER}},
+        [FLAT_MAP] = {.kind = LEZGAURI_KIND_FLAT_MAP, .count = 1, .components = {NUMBER}},
     };
     succeed(lezgauri_create_in(memory, sizeof memory, sizeof memory, LEZGAURI_BEST_FIT, LEZGAURI_TREE_INDEX, &values));
     succeed(lezgauri_add_types(values, table, TYPES, &fault));
@@ -149,6 +152,10 @@ static void start_values(void)
     succeed(lezgauri_construct(values, "numbers", VECTOR, 1, &vector));
     succeed(lezgauri_construct(values, "grown", VECTOR, 1, &grown));
     succeed(lezgauri_construct(values, "string", STRING, 1, &string));
+    succeed(lezgauri_construct(values, "flat", FLAT_MAP, 1, &flat));
+    for (int i = 0; i < CAPACITY; i++) {
+        pairs[i] = (lezgauri_pair){i, i};
+    }
     for (int i = 0; i < KEYS; i++) {
         succeed(lezgauri_put(values, map, i, &place));
     }
@@ -242,6 +249,12 @@ static void push_clear(void)
     succeed(lezgauri_clear(values, grown));
 }
 
+static void put_numbers_clear(void)
+{
+    succeed(lezgauri_put_numbers(values, flat, pairs, CAPACITY, &written));
+    succeed(lezgauri_clear(values, flat));
+}
+
 static void assign(void)
 {
     succeed(lezgauri_assign(values, string, TEXT, sizeof TEXT - 1));
@@ -288,6 +301,7 @@ static const work WORKS[] = {
     {"put, remove", put_remove},
     {"push_back, pop_back", push_pop},
     {"push_numbers, clear", push_clear},
+    {"put_numbers, clear", put_numbers_clear},
     {"assign", assign},
     {"text", text_of},
     {"construct, destroy", construct_destroy},

@@ -54,13 +54,17 @@ VALUE_WORKS = [
     ("put, remove", None, ("boost-put, erase", "lmdb-put, del", "sqlite-insert, delete")),
     ("push_back, pop_back", None, ("boost-push, pop",)),
     ("push_numbers, clear", None, ("boost-insert, clear", "boost-push 100, clear")),
+    ("put_numbers, clear", None, ("boost-insert ordered, clear", "boost-emplace_hint 100, clear")),
     ("assign", None, ("boost-assign",)),
     ("text", None, ()),
     ("construct, destroy", None, ("boost-construct, destroy",)),
 ]
 
 # how many entries a work reads, or numbers it adds. Its row is for one of them
-ENTRIES = {"next_entries": 100, "push_numbers, clear": 100, "boost-insert, clear": 100, "boost-push 100, clear": 100}
+ENTRIES = {
+    "next_entries": 100, "push_numbers, clear": 100, "boost-insert, clear": 100, "boost-push 100, clear": 100,
+    "put_numbers, clear": 100, "boost-insert ordered, clear": 100, "boost-emplace_hint 100, clear": 100,
+}
 
 # how often a work is repeated to measure its time
 TIMED = 5000

@@ -5,6 +5,7 @@
 #include "measure.h"
 
 #include <boost/interprocess/allocators/allocator.hpp>
+#include <boost/interprocess/containers/flat_map.hpp>
 #include <boost/interprocess/containers/map.hpp>
 #include <boost/interprocess/containers/string.hpp>
 #include <boost/interprocess/containers/vector.hpp>
@@ -26,6 +27,8 @@ using Best = bi::rbtree_best_fit<bi::null_mutex_family, bi::offset_ptr<void>>;
 using Segment = bi::basic_managed_external_buffer<char, Best, bi::map_index>;
 using Manager = Segment::segment_manager;
 using Map = bi::map<int64_t, int64_t, std::less<int64_t>, bi::allocator<std::pair<const int64_t, int64_t>, Manager>>;
+using Pair = std::pair<int64_t, int64_t>;
+using FlatMap = bi::flat_map<int64_t, int64_t, std::less<int64_t>, bi::allocator<Pair, Manager>>;
 using Vector = bi::vector<int64_t, bi::allocator<int64_t, Manager>>;
 using String = bi::basic_string<char, std::char_traits<char>, bi::allocator<char, Manager>>;
 
@@ -33,6 +36,8 @@ alignas(4096) static char memory[1 << 16];
 static std::optional<Segment> segment;
 static Map* map;
 static Map::iterator at;
+static FlatMap* flat;
+static Pair pairs[CAPACITY];
 static Vector *numbers, *grown;
 static String* string;
 static volatile int64_t seen;
@@ -45,6 +50,8 @@ static void start() {
     numbers = segment->construct<Vector>("numbers")(manager);
     grown = segment->construct<Vector>("grown")(manager);
     string = segment->construct<String>("string")(manager);
+    flat = segment->construct<FlatMap>("flat")(std::less<int64_t>(), manager);
+    for (int i = 0; i < CAPACITY; i++) pairs[i] = {i, i};
     for (int i = 0; i < KEYS; i++) map->emplace(i, i);
     at = map->find(KEY);
     numbers->reserve(CAPACITY);
@@ -73,6 +80,18 @@ static void insert_clear() {
 static void push_each_clear() {
     for (int64_t number : given) grown->push_back(number);
     clear();
+}
+static void clear_flat() {
+    flat->clear();
+    flat->shrink_to_fit();
+}
+static void insert_ordered_clear() {
+    flat->insert(boost::container::ordered_unique_range, std::begin(pairs), std::end(pairs));
+    clear_flat();
+}
+static void hint_each_clear() {
+    for (const Pair& it : pairs) flat->emplace_hint(flat->cend(), it.first, it.second);
+    clear_flat();
 }
 static void assign() { string->assign(TEXT, sizeof TEXT - 1); }
 static void construct_destroy() {
@@ -175,6 +194,8 @@ static const work WORKS[] = {
     {"boost-push, pop", boosts::push_pop},
     {"boost-insert, clear", boosts::insert_clear},
     {"boost-push 100, clear", boosts::push_each_clear},
+    {"boost-insert ordered, clear", boosts::insert_ordered_clear},
+    {"boost-emplace_hint 100, clear", boosts::hint_each_clear},
     {"boost-assign", boosts::assign},
     {"boost-construct, destroy", boosts::construct_destroy},
     {"lmdb-get", lmdb::get},

@@ -25,13 +25,6 @@ static void close_table(void)
     need(munmap(memory, memory_len) == 0, "munmap");
 }
 
-static void put(int64_t key, int64_t number)
-{
-    lezgauri_place value;
-    succeed(lezgauri_put(segment, map, key, &value));
-    succeed(lezgauri_store(segment, value, number));
-}
-
 static void build(const char *file, const entry *entries, uint8_t kind)
 {
     const lezgauri_type types[] = {[NUMBER] = {.kind = LEZGAURI_KIND_I64}, [MAP] = {.kind = kind, .count = 1}};
@@ -42,8 +35,12 @@ static void build(const char *file, const entry *entries, uint8_t kind)
     succeed(lezgauri_create_in(memory, memory_len, memory_len, LEZGAURI_BEST_FIT, LEZGAURI_TREE_INDEX, &segment));
     succeed(lezgauri_add_types(segment, types, 2, &fault));
     succeed(lezgauri_construct(segment, NAME, MAP, 1, &map));
-    for (int i = 0; i < KEYS; i++) {
-        put(entries[i].key, entries[i].value);
+    for (int from = 0; from < KEYS; from += BATCH) {
+        lezgauri_pair pairs[BATCH];
+        for (int i = 0; i < BATCH; i++) {
+            pairs[i] = (lezgauri_pair){entries[from + i].key, entries[from + i].value};
+        }
+        succeed(lezgauri_put_numbers(segment, map, pairs, BATCH, NULL));
     }
     close_table();
 }

@@ -844,6 +844,26 @@ static void values()
     expect("push numbers: no room", pushed == 0);
     REFUSED(image_fault(lz::status::other_type), VALUE(segment.find("list", LIST)).push_numbers(several, &pushed));
     VALUE(segment.destroy("pushed", NUMBERS));
+
+    const auto table = VALUE(segment.construct("put", FLAT_MAP));
+    const std::vector<lz::pair> pairs = {{5, 50}, {-6, 60}, {5, 70}};
+    std::size_t put = 7;
+    VALUE(table.put_numbers(pairs, &put));
+    expect("put numbers: how many", put == 3 && VALUE(table.size()) == 2);
+    VALUE(table.put_numbers({}));
+    const lz::pair other[] = {{8, INT64_MIN}};
+    VALUE(table.put_numbers(other));
+    expect("put numbers", VALUE(VALUE(table.get(5)).load()) == 70 && VALUE(VALUE(table.get(-6)).load()) == 60 &&
+                              VALUE(VALUE(table.get(8)).load()) == INT64_MIN);
+    std::vector<lz::pair> keys;
+    for (std::int64_t key = 0; key < 4096; key++) {
+        keys.push_back({key, -key});
+    }
+    REFUSED(image_fault(lz::status::bad_alloc), table.put_numbers(keys, &put));
+    expect("put numbers: out of memory", put > 100 && put < keys.size() && VALUE(table.size()) >= put);
+    REFUSED(image_fault(lz::status::other_type), VALUE(segment.find("list", LIST)).put_numbers(pairs, &put));
+    expect("put numbers, other type: how many", put == 0);
+    VALUE(segment.destroy("put", FLAT_MAP));
     const auto list = VALUE(segment.find("list", LIST));
     const read seen = list;
     VALUE(list.pop_back());

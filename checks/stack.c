@@ -18,7 +18,7 @@ enum { STACK = 8 << 20, PAINT = 0xC5, MOST_OUTPUT = 1 << 16, SIZE = 1 << 16 };
 
 /* The first types of the segment for calls on values. The others are structs, each of which contains the one before, twice as large each
  * time up to 1024 bytes. */
-enum { NUMBER, TEXT, NUMBERS, LIST, FLAT_MAP, MAP, OWN, SHARED, PAIR, PAIRS, TYPES };
+enum { NUMBER, TEXT, NUMBERS, LIST, FLAT_MAP, MAP, OWN, SHARED, PAIR, PAIRS, NUMBER_MAP, TYPES };
 
 static const lezgauri_type first_types[TYPES] = {
     [NUMBER] = {LEZGAURI_KIND_I64, 0, {0}, {0}},          [TEXT] = {LEZGAURI_KIND_STR, 0, {0}, {0}},
@@ -26,6 +26,7 @@ static const lezgauri_type first_types[TYPES] = {
     [FLAT_MAP] = {LEZGAURI_KIND_FLAT_MAP, 1, {LIST}, {0}}, [MAP] = {LEZGAURI_KIND_MAP, 1, {OWN}, {0}},
     [OWN] = {LEZGAURI_KIND_OWN, 1, {LIST}, {0}},          [SHARED] = {LEZGAURI_KIND_SHARED, 1, {LIST}, {0}},
     [PAIR] = {LEZGAURI_KIND_STRUCT, 2, {NUMBER, TEXT}, {0}}, [PAIRS] = {LEZGAURI_KIND_FLAT_MAP, 1, {NUMBER}, {0}},
+    [NUMBER_MAP] = {LEZGAURI_KIND_MAP, 1, {NUMBER}, {0}},
 };
 
 /* The arguments of a call, and its status. */
@@ -278,6 +279,9 @@ static void *open_reader(void *given)
 /* Numbers that are added to a vector. */
 static const int64_t several[100];
 
+/* Keys that are put into a map, each with its number. */
+static const lezgauri_pair several_pairs[100] = {{1, 2}, {-3, 4}, {5, 6}};
+
 /* A call on the segment with values. */
 #define CALL(name, call)                                                                                                                \
     static void *name(void *given)                                                                                                      \
@@ -315,6 +319,8 @@ CALL(item, lezgauri_item(of->values, of->place[LIST], 1, &place))
 CALL(previous_item, lezgauri_previous_item(of->values, of->place[LIST], of->place[MAP], &place))
 CALL(put_flat, lezgauri_put(of->values, of->place[FLAT_MAP], 7, &place))
 CALL(put_number, lezgauri_put(of->values, of->place[PAIRS], 7, &place))
+CALL(put_numbers_flat, lezgauri_put_numbers(of->values, of->place[PAIRS], several_pairs, 100, &count))
+CALL(put_numbers, lezgauri_put_numbers(of->values, of->place[NUMBER_MAP], several_pairs, 100, &count))
 CALL(pairs_of, lezgauri_pairs(of->values, of->place[PAIRS], &bytes))
 CALL(put, lezgauri_put(of->values, of->place[MAP], 7, &place))
 CALL(get, lezgauri_get(of->values, of->place[MAP], 7, &of->place[OWN]))
@@ -389,6 +395,8 @@ static const struct {
     {"lezgauri_previous_item", previous_item, LEZGAURI_STACK_READ},
     {"lezgauri_put", put_flat, LEZGAURI_STACK_RUN},
     {"lezgauri_put", put_number, LEZGAURI_STACK_RUN},
+    {"lezgauri_put_numbers", put_numbers_flat, LEZGAURI_STACK_RUN},
+    {"lezgauri_put_numbers", put_numbers, LEZGAURI_STACK_RUN},
     {"lezgauri_pairs", pairs_of, LEZGAURI_STACK_READ},
     {"lezgauri_put", put, LEZGAURI_STACK_RUN},
     {"lezgauri_get", get, LEZGAURI_STACK_READ},

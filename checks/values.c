@@ -935,6 +935,63 @@ static void pushing(void)
     lezgauri_close(handle);
 }
 
+/* Keys are put by calls of several ones, until the segment is out of memory, and then the others after it has grown. They come in an order
+ * in which each comes several times, the last time with the number that counts. */
+static void putting(uint32_t type)
+{
+    enum { COUNT = 1000, KEYS = 600, MORE = 37, STEP = 7 };
+    static lezgauri_pair given[COUNT];
+    int64_t last[KEYS];
+    bool is_there[KEYS] = {false};
+    lezgauri_handle *handle = NULL;
+    lezgauri_place map, value;
+    size_t put = 7, all = 0;
+    uint32_t shorts = 0, keys = 0;
+    for (int i = 0; i < COUNT; i++) {
+        given[i] = (lezgauri_pair){i * STEP % KEYS - KEYS / 2, i % 2 == 0 ? INT64_MIN + i : INT64_MAX - i};
+    }
+    done("create", lezgauri_create(PAGE, LEZGAURI_BEST_FIT, LEZGAURI_TREE_INDEX, &handle));
+    done("add types", lezgauri_add_types(handle, table, TYPES, NULL));
+    done("construct", lezgauri_construct(handle, "map", type, 1, &map));
+    done("put no numbers", lezgauri_put_numbers(handle, map, NULL, 0, &put));
+    expect("put no numbers: how many", put, 0);
+    done("put no numbers", lezgauri_put_numbers(handle, map, NULL, 0, NULL));
+    expect("put no numbers: len", len_of(handle, map), 0);
+    while (all < COUNT) {
+        size_t count = COUNT - all < MORE ? COUNT - all : MORE;
+        put = COUNT;
+        uint32_t status = lezgauri_put_numbers(handle, map, given + all, count, &put);
+        bool is_short = status == LEZGAURI_BAD_ALLOC && put < count;
+        expect("put numbers", is_short || (status == LEZGAURI_OK && put == count), 1);
+        for (size_t i = all; i < all + put; i++) {
+            int64_t key = given[i].key + KEYS / 2;
+            keys += !is_there[key];
+            is_there[key] = true;
+            last[key] = given[i].number;
+        }
+        all += put;
+        expect("put numbers: len", len_of(handle, map), keys);
+        is_sound("put numbers: sound", handle);
+        if (is_short) {
+            shorts++;
+            expect("put, no room", lezgauri_put(handle, map, given[all].key, &value), LEZGAURI_BAD_ALLOC);
+            put = 7;
+            expect("put numbers, no room", lezgauri_put_numbers(handle, map, given + all, 1, &put), LEZGAURI_BAD_ALLOC);
+            expect("put numbers, no room: how many", put, 0);
+            expect("put numbers, no room", lezgauri_put_numbers(handle, map, given + all, 1, NULL), LEZGAURI_BAD_ALLOC);
+            done("put numbers of a key that is there", lezgauri_put_numbers(handle, map, given, 1, &put));
+            last[given[0].key + KEYS / 2] = given[0].number;
+            done("grow", lezgauri_grow(handle, PAGE / 4, NULL));
+        }
+    }
+    expect("put numbers: out of memory", shorts > 0, 1);
+    for (int i = 0; i < KEYS; i++) {
+        done("get", lezgauri_get(handle, map, i - KEYS / 2, &value));
+        expect("put numbers: a number", (uint64_t)number_at(handle, value), (uint64_t)last[i]);
+    }
+    lezgauri_close(handle);
+}
+
 /* ---- each call with the same arguments */
 
 /* The arguments of a call. Each call uses some of them. */
@@ -1036,6 +1093,11 @@ static uint32_t make_push_front(const given *g) { return lezgauri_push_front(g->
 static uint32_t make_pop_back(const given *g) { return lezgauri_pop_back(g->handle, g->place); }
 static uint32_t make_pop_front(const given *g) { return lezgauri_pop_front(g->handle, g->place); }
 static uint32_t make_put(const given *g) { return lezgauri_put(g->handle, g->place, g->index, g->result); }
+static uint32_t make_put_numbers(const given *g)
+{
+    static const lezgauri_pair pairs[] = {{INT64_MIN, 0}, {-1, 1}, {0, INT64_MIN}, {-1, INT64_MAX}, {INT64_MAX, -1}};
+    return lezgauri_put_numbers(g->handle, g->place, pairs, g->index % 6, NULL);
+}
 static uint32_t make_remove(const given *g) { return lezgauri_remove(g->handle, g->place, g->index); }
 static uint32_t make_put_content(const given *g) { return lezgauri_put_content(g->handle, g->place, g->result); }
 static uint32_t make_clear(const given *g) { return lezgauri_clear(g->handle, g->place); }
@@ -1101,6 +1163,7 @@ static const call calls[] = {
     {"pop back", make_pop_back, 0, 1, false, true},
     {"pop front", make_pop_front, 0, 1, false, true},
     {"put", make_put, RETURNS(lezgauri_place), false, true},
+    {"put numbers", make_put_numbers, 0, 1, false, true},
     {"remove", make_remove, 0, 1, false, true},
     {"put content", make_put_content, RETURNS(lezgauri_place), false, true},
     {"clear", make_clear, 0, 1, false, true},
@@ -1307,6 +1370,37 @@ static void arguments(void)
     expect("push numbers, refused: len", len_of(handle, vector), 10);
     done("push numbers, up to the count", lezgauri_push_numbers(handle, vector, numbers, 3, pushed));
     expect("push numbers, up to the count", *pushed == 3 && len_of(handle, vector) == 13, 1);
+    struct {
+        lezgauri_pair pairs[2];
+        size_t count;
+        size_t after;
+    } several_pairs = {{{1, 2}, {3, 4}}, 7, 8};
+    lezgauri_pair *pairs = several_pairs.pairs;
+    size_t *put = &several_pairs.count;
+    lezgauri_place map = places[MAP];
+    uint32_t keys_before = len_of(handle, map);
+    expect("put numbers, no segment", lezgauri_put_numbers(NULL, map, pairs, 2, put), LEZGAURI_BAD_ARGUMENT);
+    expect("put numbers, null and a count", lezgauri_put_numbers(handle, map, NULL, 1, put), LEZGAURI_BAD_ARGUMENT);
+    expect("put numbers that aren't aligned", lezgauri_put_numbers(handle, map, (lezgauri_pair *)((char *)pairs + 4), 1, put),
+           LEZGAURI_BAD_ARGUMENT);
+    expect("put numbers, a count that isn't aligned", lezgauri_put_numbers(handle, map, pairs, 1, (size_t *)((char *)put + 4)),
+           LEZGAURI_BAD_ARGUMENT);
+    static const size_t many[] = {SIZE_MAX, SIZE_MAX / 16 + 2, PTRDIFF_MAX / 16 + 1};
+    for (size_t i = 0; i < sizeof many / sizeof *many; i++) {
+        expect("put too many numbers", lezgauri_put_numbers(handle, map, pairs, many[i], put), LEZGAURI_BAD_ARGUMENT);
+    }
+    expect("put numbers, the count in the last one", lezgauri_put_numbers(handle, map, pairs, 2, (size_t *)&pairs[1].number),
+           LEZGAURI_BAD_ARGUMENT);
+    expect("put numbers, the last one has the count", lezgauri_put_numbers(handle, map, pairs, 3, put), LEZGAURI_BAD_ARGUMENT);
+    expect("put numbers of the segment", lezgauri_put_numbers(handle, map, (lezgauri_pair *)(memory + 704), 1, put), LEZGAURI_BAD_ARGUMENT);
+    expect("put numbers of the handle", lezgauri_put_numbers(handle, map, (lezgauri_pair *)handle, 1, put), LEZGAURI_BAD_ARGUMENT);
+    expect("put numbers, the count in the segment", lezgauri_put_numbers(handle, map, pairs, 2, (size_t *)(memory + 704)),
+           LEZGAURI_BAD_ARGUMENT);
+    expect("put numbers, the count in the handle", lezgauri_put_numbers(handle, map, pairs, 2, (size_t *)handle), LEZGAURI_BAD_ARGUMENT);
+    expect("put numbers, refused: as before", pairs[0].key == 1 && pairs[1].number == 4 && *put == 7, 1);
+    expect("put numbers, refused: len", len_of(handle, map), keys_before);
+    done("put numbers, up to the count", lezgauri_put_numbers(handle, map, pairs, 2, put));
+    expect("put numbers, up to the count", *put == 2 && len_of(handle, map) == keys_before + 2, 1);
     lezgauri_fault fault = {.number = 7};
     expect("add types, null and a count", lezgauri_add_types(handle, NULL, 1, &fault), LEZGAURI_BAD_ARGUMENT);
     expect("add types, null and a count: number", fault.number, LEZGAURI_BAD_ARGUMENT);
@@ -1746,6 +1840,8 @@ int main(void)
     types();
     growing();
     pushing();
+    putting(MAP);
+    putting(FLAT_MAP);
     arguments();
     broken_images();
     invalid_changes();

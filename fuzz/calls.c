@@ -46,6 +46,7 @@ enum operation {
     POP_BACK,
     POP_FRONT,
     PUT_KEY,
+    PUT_NUMBERS,
     REMOVE_KEY,
     PUT_CONTENT,
     CLEAR_VALUE,
@@ -168,6 +169,7 @@ static uint32_t kinds_of(enum operation operation)
     case POP_FRONT: return LIST;
     case POP_BACK: return STR | VEC | LIST;
     case PUT_KEY:
+    case PUT_NUMBERS:
     case REMOVE_KEY: return FLAT | MAP;
     case PUT_CONTENT:
     case FREEZE_OBJECT: return 1 << LEZGAURI_KIND_OWN;
@@ -330,6 +332,29 @@ static uint32_t make(side *at, const call *it, lezgauri_place place, lezgauri_pl
         }
         return status;
     }
+    case PUT_NUMBERS: {
+        lezgauri_pair pairs[MOST_NUMBERS];
+        uint32_t before, after, count = it->number % MOST_NUMBERS;
+        size_t put = MOST_NUMBERS;
+        for (uint32_t i = 0; i < count; i++) {
+            pairs[i] = (lezgauri_pair){(int64_t)((uint64_t)it->key + i % 29), (int64_t)((uint64_t)it->key - i)};
+        }
+        bool has_len = lezgauri_len(h, place, &before) == LEZGAURI_OK;
+        status = lezgauri_put_numbers(h, place, pairs, count, &put);
+        NEED(put == (status == LEZGAURI_OK ? count : 0) || (status == LEZGAURI_BAD_ALLOC && put < count), "%zu of %u keys are put with %u",
+             put, count, status);
+        if (has_len && lezgauri_len(h, place, &after) == LEZGAURI_OK) {
+            NEED(before <= after && after <= before + put, "a map has %u keys after %zu were put into %u", after, put, before);
+        }
+        if (put > 0) {
+            int64_t number;
+            NEED(lezgauri_get(h, place, pairs[put - 1].key, &made) == LEZGAURI_OK && lezgauri_load(h, made, &number) == LEZGAURI_OK &&
+                     number == pairs[put - 1].number,
+                 "the last key has another number");
+        }
+        *result = put;
+        return status;
+    }
     case REMOVE_KEY:
         status = lezgauri_remove(h, place, it->key);
         NEED(lezgauri_get(h, place, it->key, &made) == LEZGAURI_ABSENT, "a removed key is there");
@@ -395,7 +420,7 @@ static uint32_t make(side *at, const call *it, lezgauri_place place, lezgauri_pl
 /* A call of this kind may change the segment's objects to a part although it fails. */
 static bool may_do_a_part(enum operation operation)
 {
-    return operation == RUN_ON || operation == RUN_PREPARED || operation == PUSH_NUMBERS;
+    return operation == RUN_ON || operation == RUN_PREPARED || operation == PUSH_NUMBERS || operation == PUT_NUMBERS;
 }
 
 /* Makes a call with each request for memory refused in turn, and at last with none. */

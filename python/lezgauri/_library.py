@@ -137,6 +137,7 @@ CALLS = {
     "lezgauri_append": _OF_BYTES,
     "lezgauri_push_back": _TO_PLACE,
     "lezgauri_push_numbers": (c_uint32, (*_AT, POINTER(c_int64), c_size_t, POINTER(c_size_t))),
+    "lezgauri_put_numbers": (c_uint32, (*_AT, POINTER(c_int64), c_size_t, POINTER(c_size_t))),
     "lezgauri_push_front": _TO_PLACE,
     "lezgauri_pop_back": _ON_PLACE,
     "lezgauri_pop_front": _ON_PLACE,

@@ -29,7 +29,7 @@ _INDEXES = range(2**32)
 # The entries that a loop over a map gets by one call if the segment is open only for reading.
 _BATCH = 256
 
-# The numbers that `extend` adds by one call.
+# The numbers that `extend` and `update` hand over by one call: an even number.
 _NUMBERS_AT_ONCE = 4096
 
 
@@ -157,6 +157,30 @@ class Value:
     def _has_numbers(self) -> bool:
         """Whether the values in a container are numbers."""
         return self.segment._type(self.type.components[0]).kind == Kind.I64
+
+    def _add_numbers(self, call: Callable[..., int], numbers: Iterator[int], each: int) -> None:
+        """Adds items of `each` numbers, many by one call. If something isn't a number, the items before it are added."""
+        added = 0
+        is_more = True
+        while is_more:
+            batch = array.array("q")
+            try:
+                batch.extend(itertools.islice(numbers, _NUMBERS_AT_ONCE))
+            finally:
+                added += self._add_batch(call, batch, len(batch) // each, added)
+            is_more = len(batch) == _NUMBERS_AT_ONCE
+
+    def _add_batch(self, call: Callable[..., int], numbers: "array.array[int]", count: int, before: int) -> int:
+        """Adds so many items by one call, after those that were added before. Returns how many it added."""
+        if count == 0:
+            return 0
+        added = c_size_t()
+        try:
+            self._change(call, (c_int64 * len(numbers)).from_buffer(numbers), count, byref(added))
+        except BadAlloc as error:
+            error.added = before + added.value
+            raise
+        return count
 
 
 def _add(add: Callable[[], Value], value: Any, undo: Callable[[], None]) -> None:
@@ -360,31 +384,8 @@ class Vector(_Growing):
         if not self._has_numbers():
             super().extend(values)
             return
-        added = 0
         with Kept() as kept:
-            left = map(_as_number, plain(values, kept))
-            is_more = True
-            while is_more:
-                numbers = array.array("q")
-                try:
-                    numbers.extend(itertools.islice(left, _NUMBERS_AT_ONCE))
-                finally:
-                    # also those before a value that isn't a number
-                    self._push(numbers, added)
-                added += len(numbers)
-                is_more = len(numbers) == _NUMBERS_AT_ONCE
-
-    def _push(self, numbers: "array.array[int]", before: int) -> None:
-        """Adds numbers at the end, after those that an `extend` added before."""
-        if not numbers:
-            return
-        pushed = c_size_t()
-        count = len(numbers)
-        try:
-            self._change(library().lezgauri_push_numbers, (c_int64 * count).from_buffer(numbers), count, byref(pushed))
-        except BadAlloc as error:
-            error.added = before + pushed.value
-            raise
+            self._add_numbers(library().lezgauri_push_numbers, map(_as_number, plain(values, kept)), 1)
 
     def __iter__(self) -> Iterator[Any]:
         # one call for all numbers
@@ -659,6 +660,19 @@ class Map(_Sized, MutableMapping):  # type: ignore[type-arg]
         """Removes the least key, and returns it with what `pop` returns."""
         key = self.first()
         return key, self.pop(key)
+
+    def update(self, other: Any = (), /, **more: Any) -> None:
+        """Puts keys with their values, from a mapping or from pairs. Raises BadAlloc; then those before stay. In a map of numbers they are
+        put many by one call, so up to 2048 pairs are taken from `other` before they are put, and the exception's attribute `added` is how
+        many were put."""
+        if not self._has_numbers():
+            super().update(other, **more)
+            return
+        with Kept() as kept:
+            pairs = plain(other, kept)
+            pairs = itertools.chain(dict(pairs).items() if hasattr(pairs, "keys") else pairs, more.items())
+            numbers = (_as_number(number) for key, value in pairs for number in (key, value))
+            self._add_numbers(library().lezgauri_put_numbers, numbers, 2)
 
     def setdefault(self, key: int, default: Any = _NONE) -> Any:
         """The value of a key. A missing key is added with this value, or with the default of its type."""

@@ -521,6 +521,57 @@ class VectorTest(ValueCase):
                     vector.extend(range(1000))
                 self.assertEqual((caught.exception.added, len(vector)), (added, count))
 
+    def test_update(self):
+        kinds = t.map(t.i64), t.flat_map(t.i64)
+        for segment in self.segments(*kinds, size=1 << 20):
+            tree, flat = self.objects(segment, tree=kinds[0], flat=kinds[1])
+            for numbers in tree, flat:
+                expected = {key * 7 % 5003: -key for key in range(10000)}
+                numbers.update((key * 7 % 5003, -key) for key in range(10000))
+                self.assertEqual(list(numbers.items()), sorted(expected.items()))
+                numbers.clear()
+                numbers.update(())
+                numbers.update()
+                self.assertEqual(numbers, {})
+                numbers.update({MOST: LEAST, LEAST: True}, **{})
+                numbers.update([(0, 5), [0, 6], (MOST, 1)])
+                numbers.update(numbers)
+                self.assertEqual(numbers, {LEAST: 1, 0: 6, MOST: 1})
+                for wrong, error in (
+                    (("a", 1), TypeError), ((1, "a"), TypeError), ((1, 2.0), TypeError), ((MOST + 1, 1), OverflowError),
+                    ((1, LEAST - 1), OverflowError), ((1, 2, 3), ValueError), ((1,), ValueError), (1, TypeError),
+                ):
+                    numbers.clear()
+                    with self.assertRaises(error):
+                        numbers.update([(7, -7), (-7, 7), wrong, (8, 8)])
+                    self.assertEqual(numbers, {-7: 7, 7: -7})
+                with self.assertRaises(TypeError):
+                    numbers.update({}, a=1)
+            flat.clear()
+            flat.update(tree)
+            self.assertEqual(flat, tree)
+
+    def test_update_out_of_memory(self):
+        """The keys before stay, and the exception has their number."""
+        for kind in (t.map(t.i64), t.flat_map(t.i64)):
+            for segment in self.segments(kind, size=2048):
+                one_by_one = segment.construct("m", kind)
+                with self.assertRaises(lezgauri.BadAlloc):
+                    for number in range(1000):
+                        one_by_one[number] = -number
+                count = len(one_by_one)
+                del segment["m"]
+                numbers = segment.construct("m", kind)
+                with self.assertRaises(lezgauri.BadAlloc) as caught:
+                    numbers.update((number, -number) for number in range(1000))
+                self.assertEqual(caught.exception.added, count)
+                self.assertEqual(numbers, {number: -number for number in range(count)})
+                # keys that are there need no memory
+                with self.assertRaises(lezgauri.BadAlloc) as caught:
+                    numbers.update([(0, 5), (1, 6), (-1, 7)])
+                self.assertEqual((caught.exception.added, len(numbers), numbers[0], numbers[1]), (2, count, 5, 6))
+                del segment["m"]
+
     def test_out_of_memory(self):
         for segment in self.segments(NUMBERS, TEXTS, size=2048):
             vector = segment.construct("v", NUMBERS)

@@ -135,12 +135,13 @@ uint32_t lezgauri_raw_store(uint8_t *image, size_t len, kept_types *types, uint3
 uint32_t lezgauri_raw_assign(lent *image, kept_types *types, uint32_t at, uint32_t type, const uint8_t *bytes, size_t len);
 uint32_t lezgauri_raw_append(lent *image, kept_types *types, uint32_t at, uint32_t type, const uint8_t *bytes, size_t len);
 uint32_t lezgauri_raw_push_back(lent *image, kept_types *types, uint32_t at, uint32_t type, lezgauri_place *item);
-uint32_t lezgauri_raw_push_numbers(lent *image, kept_types *types, uint32_t at, uint32_t type, const int64_t *numbers, size_t count,
+uint32_t lezgauri_raw_push_numbers(lent *image, kept_types *types, uint32_t at, uint32_t type, const void *numbers, size_t count,
                                    size_t *pushed);
 uint32_t lezgauri_raw_push_front(lent *image, kept_types *types, uint32_t at, uint32_t type, lezgauri_place *item);
 uint32_t lezgauri_raw_pop_back(lent *image, kept_types *types, uint32_t at, uint32_t type);
 uint32_t lezgauri_raw_pop_front(lent *image, kept_types *types, uint32_t at, uint32_t type);
 uint32_t lezgauri_raw_put(lent *image, kept_types *types, uint32_t at, uint32_t type, int64_t key, lezgauri_place *value);
+uint32_t lezgauri_raw_put_numbers(lent *image, kept_types *types, uint32_t at, uint32_t type, const void *pairs, size_t count, size_t *put);
 uint32_t lezgauri_raw_remove(lent *image, kept_types *types, uint32_t at, uint32_t type, int64_t key);
 uint32_t lezgauri_raw_put_content(lent *image, kept_types *types, uint32_t at, uint32_t type, lezgauri_place *content);
 uint32_t lezgauri_raw_clear(lent *image, kept_types *types, uint32_t at, uint32_t type);
@@ -1456,22 +1457,32 @@ uint32_t lezgauri_push_back(lezgauri_handle *handle, lezgauri_place sequence, le
     return make_part(handle, sequence, item, lezgauri_raw_push_back);
 }
 
-uint32_t lezgauri_push_numbers(lezgauri_handle *handle, lezgauri_place vector, const int64_t *numbers, size_t count, size_t *pushed)
+/* An export that adds several items to a value, and gives how many it added. */
+typedef uint32_t several_call(lent *image, kept_types *types, uint32_t at, uint32_t type, const void *items, size_t count, size_t *added);
+
+/* Adds items that consist of numbers to a value. `size` is the size of an item. */
+static uint32_t add_several(lezgauri_handle *handle, lezgauri_place place, const void *items, size_t count, size_t size, size_t *added,
+                            several_call *call)
 {
     lent image;
     size_t unread;
-    bool are_numbers = may_be(numbers, count, sizeof *numbers, _Alignof(int64_t));
-    span from = one(numbers, are_numbers ? count * sizeof *numbers : 0);
-    span to = one(pushed, sizeof *pushed);
-    bool is_allowed = handle != NULL && are_numbers && may_tell(pushed, _Alignof(size_t)) && is_outside(handle, from.at, from.len) &&
+    bool are_items = may_be(items, count, size, _Alignof(int64_t));
+    span from = one(items, are_items ? count * size : 0);
+    span to = one(added, sizeof *added);
+    bool is_allowed = handle != NULL && are_items && may_tell(added, _Alignof(size_t)) && is_outside(handle, from.at, from.len) &&
                       is_outside(handle, to.at, to.len) && !overlap(from, to);
-    size_t *told = is_allowed && pushed != NULL ? pushed : &unread;
+    size_t *told = is_allowed && added != NULL ? added : &unread;
     *told = 0;
     uint32_t status = begin_values(handle, is_allowed, &image);
     if (status != LEZGAURI_OK) {
         return status;
     }
-    return end(handle, lezgauri_raw_push_numbers(&image, &handle->types, vector.at, vector.type, or_empty(numbers), count, told));
+    return end(handle, call(&image, &handle->types, place.at, place.type, or_empty(items), count, told));
+}
+
+uint32_t lezgauri_push_numbers(lezgauri_handle *handle, lezgauri_place vector, const int64_t *numbers, size_t count, size_t *pushed)
+{
+    return add_several(handle, vector, numbers, count, sizeof *numbers, pushed, lezgauri_raw_push_numbers);
 }
 
 uint32_t lezgauri_push_front(lezgauri_handle *handle, lezgauri_place list, lezgauri_place *item)
@@ -1489,6 +1500,11 @@ uint32_t lezgauri_put(lezgauri_handle *handle, lezgauri_place map, int64_t key, 
     lent image;
     uint32_t status = begin_values(handle, may_return_place(handle, value), &image);
     return status != LEZGAURI_OK ? status : end(handle, lezgauri_raw_put(&image, &handle->types, map.at, map.type, key, value));
+}
+
+uint32_t lezgauri_put_numbers(lezgauri_handle *handle, lezgauri_place map, const lezgauri_pair *pairs, size_t count, size_t *put)
+{
+    return add_several(handle, map, pairs, count, sizeof *pairs, put, lezgauri_raw_put_numbers);
 }
 
 uint32_t lezgauri_remove(lezgauri_handle *handle, lezgauri_place map, int64_t key)

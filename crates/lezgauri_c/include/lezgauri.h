@@ -5,9 +5,10 @@
  *
  * Status: a call that can fail returns LEZGAURI_OK, the number of a fault, or one of the numbers from 100 on below. After a fault,
  * LEZGAURI_BAD_ARGUMENT or LEZGAURI_BUSY nothing ran, and the caller's memory is unchanged except *fault, *written, *needed, *handle,
- * *prepared and *pushed. A call on a value changes nothing unless it returns LEZGAURI_OK, except lezgauri_push_numbers. No call aborts,
- * unwinds, prints, or reads or writes beyond the lengths that it is given. A call takes memory from malloc and frees it before it returns,
- * except the memory of an open segment and of a prepared client. LEZGAURI_MEMORY means that malloc refused.
+ * *prepared, *pushed and *put. A call on a value changes nothing unless it returns LEZGAURI_OK, except lezgauri_push_numbers and
+ * lezgauri_put_numbers. No call aborts, unwinds, prints, or reads or writes beyond the lengths that it is given. A call takes memory from
+ * malloc and frees it before it returns, except the memory of an open segment and of a prepared client. LEZGAURI_MEMORY means that malloc
+ * refused.
  *
  * Tested by each call: null pointers with a length other than 0, lengths above PTRDIFF_MAX, pointers to numbers or structs that
  * aren't aligned, and overlap of what the call writes (numbers and structs that it returns, reports, an output, a saved image, an open
@@ -404,6 +405,12 @@ typedef struct lezgauri_entry {
     lezgauri_place value;
 } lezgauri_entry;
 
+/* A key of a map of i64, and its number. */
+typedef struct lezgauri_pair {
+    int64_t key;
+    int64_t number;
+} lezgauri_pair;
+
 /*
  * Finds the first value of the object with this name, whose values have this type. LEZGAURI_ABSENT if no object has the name,
  * LEZGAURI_OTHER_TYPE if its values have another type.
@@ -557,6 +564,14 @@ uint32_t lezgauri_pop_front(lezgauri_handle *handle, lezgauri_place list);
 
 /* The place of the value of a key of a map or flat map. A missing key is added with a default value; LEZGAURI_BAD_ALLOC. */
 uint32_t lezgauri_put(lezgauri_handle *handle, lezgauri_place map, int64_t key, lezgauri_place *value);
+
+/*
+ * Puts `count` keys with their numbers into a map or flat map of i64, one after another. A key that is there gets the number. It is
+ * fastest in ascending order of the keys. If there is no room for one of them, those before it stay, and the call returns
+ * LEZGAURI_BAD_ALLOC. With any other status but LEZGAURI_OK it puts none. *put is how many were put; LEZGAURI_BAD_ARGUMENT may leave it as
+ * it was. `put` may be null, and so may `pairs` if `count` is 0.
+ */
+uint32_t lezgauri_put_numbers(lezgauri_handle *handle, lezgauri_place map, const lezgauri_pair *pairs, size_t count, size_t *put);
 
 /* Removes a key of a map or flat map, and destroys its value. LEZGAURI_ABSENT if it doesn't have the key, or is no map. */
 uint32_t lezgauri_remove(lezgauri_handle *handle, lezgauri_place map, int64_t key);

@@ -667,6 +667,7 @@ struct close_client {
 // ---- values in place
 
 using place = lezgauri_place;
+using pair = lezgauri_pair;
 
 // The types of a table for `add_types`: type_of(kind::i64), type_of(kind::vec, {0}), type_of(kind::structure, {0, 1}).
 inline type type_of(kind of, std::initializer_list<std::uint8_t> components = {}) noexcept
@@ -1166,6 +1167,14 @@ public:
         place found{};
         const std::uint32_t number = lezgauri_put(handle_, at_, key, &found);
         return detail::if_ok<Policy>(number, basic_value(handle_, found));
+    }
+
+    // lezgauri_put_numbers: puts keys with their numbers into a map of i64, one after another. They aren't in the segment. If there is no room
+    // for one of them, those before it stay, and the call is refused with `bad_alloc`. *put is how many were put, also if the call is
+    // refused.
+    result<void> put_numbers(lezgauri::items<const pair> pairs, std::size_t *put = nullptr) const noexcept(Policy::is_noexcept)
+    {
+        return detail::done<Policy>(lezgauri_put_numbers(handle_, at_, pairs.data(), pairs.size(), put));
     }
 
     // lezgauri_remove. Returns whether the map had the key.
