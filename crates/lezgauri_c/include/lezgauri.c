@@ -9,6 +9,13 @@
 #include <stdlib.h>
 #include <string.h>
 
+/* A function that is compiled into each of its callers, so that it costs only what that caller needs. */
+#ifdef __GNUC__
+#define INLINED inline __attribute__((always_inline))
+#else
+#define INLINED inline
+#endif
+
 /* Memory that a call lends to the library: its start, the number of bytes in use, and its capacity in bytes. It is `Lent` of the
  * crate lezgauri_c. The library uses the memory in place, and sets the number of bytes in use. Only the calls that create, grow or
  * shrink a segment change the length of an image. */
@@ -152,8 +159,8 @@ uint32_t lezgauri_raw_share(lent *image, kept_types *types, uint32_t at, uint32_
 /* The most bytes of an image. */
 #define MOST_IMAGE ((size_t)1 << 30)
 
-/* The type table of an image, and the most bytes of a name (docs/FORMATS.md). */
-enum { TABLE_AT = 64, TABLE_LEN = 512, MOST_NAME = 63 };
+/* The position of a byte of the header that isn't 0, the type table, and the most bytes of a name (docs/FORMATS.md). */
+enum { MAGIC_AT = 0, TABLE_AT = 64, TABLE_END = 576, MOST_NAME = 63 };
 
 /* ---- the memory of a call */
 
@@ -187,18 +194,18 @@ static void *or_room(void *at)
 }
 
 /* Whether a pointer is null or has this alignment, a power of two. */
-static bool may_tell(const void *at, size_t align)
+static inline bool may_tell(const void *at, size_t align)
 {
     return ((uintptr_t)at & (align - 1)) == 0;
 }
 
 /* Whether a pointer to `len` items of this size and alignment is allowed. */
-static bool may_be(const void *at, size_t len, size_t size, size_t align)
+static inline bool may_be(const void *at, size_t len, size_t size, size_t align)
 {
     return len <= PTRDIFF_MAX / size && may_tell(at, align) && (at != NULL || len == 0);
 }
 
-static bool may_be_bytes(const void *at, size_t len)
+static inline bool may_be_bytes(const void *at, size_t len)
 {
     return may_be(at, len, 1, 1);
 }
@@ -220,6 +227,14 @@ static bool overlap(span a, span b)
     uintptr_t start = (uintptr_t)a.at;
     uintptr_t other = (uintptr_t)b.at;
     return a.len > 0 && b.len > 0 && (start < other ? other - start < a.len : start - other < b.len);
+}
+
+/* Whether a call's memory might overlap other memory of it: false only if it doesn't. Exact unless one of the two is empty. A call with
+ * few pieces of memory compares them by this function, since a comparison takes four instructions and no branch for empty pieces. */
+static inline bool may_overlap(const void *at, size_t len, const void *other, size_t other_len)
+{
+    /* the positions where the memory would overlap the other begin len - 1 bytes before it */
+    return (uintptr_t)at - (uintptr_t)other + (len - 1) < other_len + (len - 1);
 }
 
 /* Whether a span overlaps none of `count` others. */
@@ -396,10 +411,9 @@ struct lezgauri_handle {
     atomic_size_t len;
     atomic_size_t room; /* the bytes from `image` on that the segment may grow into */
     memory_kind kind;
-    atomic_flag busy;         /* while a call uses the segment */
-    kept_types types;         /* none before the first call on values or clients, unless the segment is open only for reading */
-    size_t table_len;         /* the bytes of `table` to the end of its first unused entry */
-    uint8_t table[TABLE_LEN]; /* the image's type table when `types` were read */
+    atomic_bool busy; /* while a call uses the segment */
+    kept_types types; /* none before the first call on values or clients, unless the segment is open only for reading */
+    uint32_t sign;    /* the position of a byte of the image that is 0 as long as `types` are the image's */
 };
 
 static span handle_at(const lezgauri_handle *handle)
@@ -407,26 +421,43 @@ static span handle_at(const lezgauri_handle *handle)
     return one(handle, sizeof *handle);
 }
 
+/* The image's address, its length, and its room. A call that has marked the segment as busy finds them unchanged. */
+static inline uint8_t *image_in(const lezgauri_handle *handle)
+{
+    return atomic_load_explicit(&handle->image, memory_order_relaxed);
+}
+
+static inline size_t len_of(const lezgauri_handle *handle)
+{
+    return atomic_load_explicit(&handle->len, memory_order_relaxed);
+}
+
+static inline size_t room_of(const lezgauri_handle *handle)
+{
+    return atomic_load_explicit(&handle->room, memory_order_relaxed);
+}
+
 static span segment_at(const lezgauri_handle *handle)
 {
-    return handle != NULL ? (span){handle->image, handle->room} : (span){NULL, 0};
+    return handle != NULL ? (span){image_in(handle), room_of(handle)} : (span){NULL, 0};
 }
 
 /* The image of a segment, for calls that keep its length. */
-static lent image_of(const lezgauri_handle *handle)
+static inline lent image_of(const lezgauri_handle *handle)
 {
-    return (lent){handle->image, handle->len, handle->len};
+    size_t len = len_of(handle);
+    return (lent){image_in(handle), len, len};
 }
 
 /* Marks a segment or a client as busy. Returns false if another call uses it. */
-static bool acquire(atomic_flag *busy)
+static inline bool acquire(atomic_bool *busy)
 {
-    return !atomic_flag_test_and_set_explicit(busy, memory_order_acquire);
+    return !atomic_exchange_explicit(busy, true, memory_order_acquire);
 }
 
-static void release(atomic_flag *busy)
+static inline void release(atomic_bool *busy)
 {
-    atomic_flag_clear_explicit(busy, memory_order_release);
+    atomic_store_explicit(busy, false, memory_order_release);
 }
 
 /* Begins a call that changes a segment: marks it as busy. LEZGAURI_OK, or why the call is refused. */
@@ -439,7 +470,7 @@ static uint32_t begin_change(lezgauri_handle *handle)
 }
 
 /* The handle of a segment that a call only reads. For the caller it is const: the image isn't changed, and the flag isn't visible. */
-static lezgauri_handle *flagged(const lezgauri_handle *handle)
+static inline lezgauri_handle *flagged(const lezgauri_handle *handle)
 {
     return (lezgauri_handle *)handle;
 }
@@ -459,52 +490,56 @@ static lezgauri_handle *new_handle(uint8_t *place, size_t len, size_t room, memo
         atomic_init(&made->len, len);
         atomic_init(&made->room, room);
         made->kind = kind;
-        atomic_flag_clear(&made->busy);
+        atomic_init(&made->busy, false);
         made->types = (kept_types){NULL, false};
+        made->sign = MAGIC_AT;
     }
     return made;
 }
 
-/* Reads the types of a segment for the calls on values and clients. */
+/* Reads the types of a segment for the calls on values and clients. Types are never changed or removed, and the next one is put into the
+ * first unused entry of the table. The first byte of an entry is 0 only while it is unused, and the last byte always. */
 static uint32_t read_types(lezgauri_handle *handle)
 {
-    const uint8_t *image = handle->image;
-    uint32_t status = lezgauri_raw_open_types(image, handle->len, &handle->types);
+    const uint8_t *image = image_in(handle);
+    uint32_t status = lezgauri_raw_open_types(image, len_of(handle), &handle->types);
     if (status == LEZGAURI_OK) {
-        memcpy(handle->table, image + TABLE_AT, TABLE_LEN);
-        /* an entry begins with its kind, which is 0 if the entry is unused */
-        size_t used = 0;
-        while (used < TABLE_LEN && handle->table[used] != 0) {
-            used += sizeof(lezgauri_type);
+        uint32_t sign = TABLE_AT;
+        while (sign < TABLE_END && image[sign] != 0) {
+            sign += sizeof(lezgauri_type);
         }
-        handle->table_len = used < TABLE_LEN ? used + sizeof(lezgauri_type) : TABLE_LEN;
+        handle->sign = sign < TABLE_END ? sign : TABLE_END - 1;
     }
     return status;
 }
 
-/* Whether the types that the handle keeps are the segment's. Other handles and runs may have added types: then the first unused entry
- * differs. */
-static bool has_types(const lezgauri_handle *handle)
+/* Whether the types that the handle keeps are the segment's. Other handles and runs may have added types. */
+static inline bool has_types(const lezgauri_handle *handle)
 {
-    return handle->kind == LENT_TO_READ ||
-           (handle->types.is_there && memcmp(handle->table, handle->image + TABLE_AT, handle->table_len) == 0);
+    return image_in(handle)[handle->sign] == 0;
 }
 
-/* Marks a segment as busy, and reads its types if it has new ones. LEZGAURI_OK, or why the call is refused. */
-static uint32_t begin_with_types(lezgauri_handle *handle)
+/* Reads the new types of a segment that the call has marked as busy. Ends the call if they can't be read. */
+static uint32_t begin_with_new_types(lezgauri_handle *handle)
 {
-    if (!acquire(&handle->busy)) {
-        return LEZGAURI_BUSY;
-    }
-    uint32_t status = has_types(handle) ? LEZGAURI_OK : read_types(handle);
+    uint32_t status = read_types(handle);
     if (status != LEZGAURI_OK) {
         release(&handle->busy);
     }
     return status;
 }
 
+/* Marks a segment as busy, and reads its types if it has new ones. LEZGAURI_OK, or why the call is refused. */
+static inline uint32_t begin_with_types(lezgauri_handle *handle)
+{
+    if (!acquire(&handle->busy)) {
+        return LEZGAURI_BUSY;
+    }
+    return has_types(handle) ? LEZGAURI_OK : begin_with_new_types(handle);
+}
+
 /* The same for a call that changes the segment. */
-static uint32_t begin_change_with_types(lezgauri_handle *handle)
+static inline uint32_t begin_change_with_types(lezgauri_handle *handle)
 {
     return handle->kind == LENT_TO_READ ? LEZGAURI_READ_ONLY : begin_with_types(handle);
 }
@@ -786,7 +821,7 @@ uint32_t lezgauri_image(const lezgauri_handle *handle, lezgauri_bytes *image)
 struct lezgauri_client {
     kept prepared;
     size_t len;
-    atomic_flag busy; /* while a call runs the client */
+    atomic_bool busy; /* while a call runs the client */
     uint8_t bytes[];
 };
 
@@ -820,7 +855,7 @@ uint32_t lezgauri_prepare(const lezgauri_handle *handle, const void *client, siz
     }
     made->prepared = (kept){NULL, false};
     made->len = client_len;
-    atomic_flag_clear(&made->busy);
+    atomic_init(&made->busy, false);
     memcpy(made->bytes, or_empty(client), client_len);
     lezgauri_fault told;
     status = lezgauri_raw_prepare(&flagged(handle)->types, made->bytes, client_len, &made->prepared, &told);
@@ -858,73 +893,132 @@ typedef struct run_arguments {
 } run_arguments;
 
 /* Marks the segment, whose types the run needs, and the client as busy. LEZGAURI_OK, or why the run is refused. */
-static uint32_t acquire_both(const run_arguments *with)
+static inline uint32_t acquire_both(lezgauri_handle *handle, lezgauri_client *prepared)
 {
-    uint32_t status = begin_change_with_types(with->handle);
-    if (status == LEZGAURI_OK && with->prepared != NULL && !acquire(&with->prepared->busy)) {
-        release(&with->handle->busy);
+    uint32_t status = begin_change_with_types(handle);
+    if (status == LEZGAURI_OK && prepared != NULL && !acquire(&prepared->busy)) {
+        release(&handle->busy);
         return LEZGAURI_BUSY;
     }
     return status;
 }
 
-static void release_both(const run_arguments *with)
+static inline void release_both(lezgauri_handle *handle, lezgauri_client *prepared)
 {
-    if (with->prepared != NULL) {
-        release(&with->prepared->busy);
+    if (prepared != NULL) {
+        release(&prepared->busy);
     }
-    release(&with->handle->busy);
+    release(&handle->busy);
+}
+
+/* The memory of a run, in this order. The first RUN_WRITTEN spans are written to. */
+enum { RUN_SPANS = 9, RUN_WRITTEN = 7 };
+
+static void memory_of_run(const run_arguments *with, span spans[RUN_SPANS])
+{
+    spans[0] = one(with->fault, sizeof *with->fault);
+    spans[1] = one(with->length, sizeof *with->length);
+    spans[2] = one(with->report, sizeof *with->report);
+    spans[3] = one(with->output, with->capacity);
+    spans[4] = handle_at(with->handle);
+    spans[5] = segment_at(with->handle);
+    spans[6] = client_at(with->prepared);
+    spans[7] = one(with->client, with->client_len);
+    spans[8] = one(with->input, with->input_len);
+}
+
+/* Whether each span that a run writes to overlaps no other span. */
+static bool are_apart_in_run(run_arguments with)
+{
+    span spans[RUN_SPANS];
+    memory_of_run(&with, spans);
+    return are_apart((memory){spans, RUN_SPANS, RUN_WRITTEN});
+}
+
+static uint32_t refuse_run_on(uint32_t number, run_arguments with)
+{
+    span spans[RUN_SPANS];
+    memory_of_run(&with, spans);
+    return refuse(number, with.fault, (memory){spans, RUN_SPANS, RUN_WRITTEN});
+}
+
+/* Whether memory might overlap what a run uses besides the caller's arguments: the handle, the segment or the prepared client. */
+static INLINED bool may_overlap_opened(run_arguments with, span image, const void *at, size_t len)
+{
+    return may_overlap(at, len, with.handle, sizeof *with.handle) || may_overlap(at, len, image.at, image.len) ||
+           (with.prepared != NULL && may_overlap(at, len, with.prepared, sizeof *with.prepared + with.prepared->len));
+}
+
+/* Whether bytes might overlap a struct or the number that a run returns. */
+static INLINED bool may_overlap_returned(run_arguments with, const void *at, size_t len)
+{
+    return may_overlap(with.fault, sizeof *with.fault, at, len) || may_overlap(with.length, sizeof *with.length, at, len) ||
+           may_overlap(with.report, sizeof *with.report, at, len);
+}
+
+/* Whether bytes that a run reads might overlap memory that it writes to. */
+static INLINED bool may_overlap_written(run_arguments with, span image, const void *at, size_t len)
+{
+    return len > 0 && (may_overlap_opened(with, image, at, len) || may_overlap_returned(with, at, len) ||
+                       may_overlap(at, len, with.output, with.capacity));
+}
+
+/* Whether the memory of a run might overlap where it must not. This makes the comparisons of are_apart_in_run, but without a list of the
+ * spans, which takes as many instructions as a short run. */
+static INLINED bool may_overlap_in_run(run_arguments with)
+{
+    span image = segment_at(with.handle);
+    size_t fault = sizeof *with.fault, length = sizeof *with.length, report = sizeof *with.report;
+    return may_overlap_opened(with, image, with.fault, fault) || may_overlap_opened(with, image, with.length, length) ||
+           may_overlap_opened(with, image, with.report, report) || may_overlap(with.fault, fault, with.length, length) ||
+           may_overlap(with.fault, fault, with.report, report) || may_overlap(with.length, length, with.report, report) ||
+           (with.capacity > 0 && (may_overlap_opened(with, image, with.output, with.capacity) ||
+                                  may_overlap_returned(with, with.output, with.capacity))) ||
+           may_overlap(with.handle, sizeof *with.handle, image.at, image.len) ||
+           (with.prepared != NULL && (may_overlap(with.handle, sizeof *with.handle, with.prepared, sizeof *with.prepared + with.prepared->len) ||
+                                      may_overlap(image.at, image.len, with.prepared, sizeof *with.prepared + with.prepared->len))) ||
+           may_overlap_written(with, image, with.client, with.client_len) || may_overlap_written(with, image, with.input, with.input_len);
 }
 
 /* Runs a client on an open segment. RUN_WHOLE is all or nothing. */
-static uint32_t run_on(const run_arguments *with, run_kind kind)
+static INLINED uint32_t run_on(run_arguments with, run_kind kind)
 {
-    span spans[] = {one(with->fault, sizeof *with->fault),
-                    one(with->length, sizeof *with->length),
-                    one(with->report, sizeof *with->report),
-                    one(with->output, with->capacity),
-                    handle_at(with->handle),
-                    segment_at(with->handle),
-                    client_at(with->prepared),
-                    one(with->client, with->client_len),
-                    one(with->input, with->input_len)};
-    memory of = MEMORY(spans, 7);
-    if (with->handle == NULL || (kind == RUN_CLIENT && with->prepared == NULL) || !may_be_bytes(with->client, with->client_len) ||
-        !may_be_bytes(with->input, with->input_len) || !may_be_bytes(with->output, with->capacity) ||
-        !may_tell(with->length, _Alignof(size_t)) || !may_tell(with->report, _Alignof(lezgauri_report)) ||
-        !may_tell(with->fault, _Alignof(lezgauri_fault)) || !are_apart(of)) {
-        return refuse(LEZGAURI_BAD_ARGUMENT, with->fault, of);
+    if (with.handle == NULL || (kind == RUN_CLIENT && with.prepared == NULL) || !may_be_bytes(with.client, with.client_len) ||
+        !may_be_bytes(with.input, with.input_len) || !may_be_bytes(with.output, with.capacity) ||
+        !may_tell(with.length, _Alignof(size_t)) || !may_tell(with.report, _Alignof(lezgauri_report)) ||
+        !may_tell(with.fault, _Alignof(lezgauri_fault)) || (may_overlap_in_run(with) && !are_apart_in_run(with))) {
+        return refuse_run_on(LEZGAURI_BAD_ARGUMENT, with);
     }
-    uint32_t status = acquire_both(with);
+    uint32_t status = acquire_both(with.handle, with.prepared);
     if (status != LEZGAURI_OK) {
-        return refuse(status, with->fault, of);
+        return refuse_run_on(status, with);
     }
-    lent image = image_of(with->handle);
-    kept_types *types = &with->handle->types;
-    lent printed = {or_room(with->output), 0, with->capacity};
+    lent image = image_of(with.handle);
+    kept_types *types = &with.handle->types;
+    lent printed = {or_room(with.output), 0, with.capacity};
     size_t length = 0;
     lezgauri_report reported = {0};
     lezgauri_fault told;
     if (kind == RUN_WHOLE) {
-        status = lezgauri_raw_run_whole(&image, types, or_empty(with->client), with->client_len, or_empty(with->input),
-                                        with->input_len, &printed, &length, &reported, &told);
+        status = lezgauri_raw_run_whole(&image, types, or_empty(with.client), with.client_len, or_empty(with.input),
+                                        with.input_len, &printed, &length, &reported, &told);
     } else if (kind == RUN_CLIENT) {
-        status = lezgauri_raw_run_client(&image, types, &with->prepared->prepared, or_empty(with->input), with->input_len, &printed,
+        status = lezgauri_raw_run_client(&image, types, &with.prepared->prepared, or_empty(with.input), with.input_len, &printed,
                                          &reported, &told);
         length = printed.len;
     } else {
-        status = lezgauri_raw_run_on(&image, types, or_empty(with->client), with->client_len, or_empty(with->input), with->input_len,
+        status = lezgauri_raw_run_on(&image, types, or_empty(with.client), with.client_len, or_empty(with.input), with.input_len,
                                      &printed, &reported, &told);
         length = printed.len;
     }
-    release_both(with);
-    if (with->length != NULL) {
-        *with->length = length;
+    release_both(with.handle, with.prepared);
+    if (with.length != NULL) {
+        *with.length = length;
     }
-    if (with->report != NULL && (status == LEZGAURI_OK || (status == LEZGAURI_OUTPUT_FULL && kind != RUN_WHOLE))) {
-        *with->report = reported;
+    if (with.report != NULL && (status == LEZGAURI_OK || (status == LEZGAURI_OUTPUT_FULL && kind != RUN_WHOLE))) {
+        *with.report = reported;
     }
-    tell(with->fault, &told);
+    tell(with.fault, &told);
     return status;
 }
 
@@ -932,7 +1026,7 @@ uint32_t lezgauri_run_on(lezgauri_handle *handle, const void *client, size_t cli
                          size_t input_len, void *output, size_t capacity, size_t *written, lezgauri_report *report,
                          lezgauri_fault *fault)
 {
-    return run_on(&(run_arguments){handle, NULL, client, client_len, input, input_len, output, capacity, written, report, fault},
+    return run_on((run_arguments){handle, NULL, client, client_len, input, input_len, output, capacity, written, report, fault},
                   RUN_ON);
 }
 
@@ -940,14 +1034,14 @@ uint32_t lezgauri_run_whole(lezgauri_handle *handle, const void *client, size_t 
                             size_t input_len, void *output, size_t capacity, size_t *needed, lezgauri_report *report,
                             lezgauri_fault *fault)
 {
-    return run_on(&(run_arguments){handle, NULL, client, client_len, input, input_len, output, capacity, needed, report, fault},
+    return run_on((run_arguments){handle, NULL, client, client_len, input, input_len, output, capacity, needed, report, fault},
                   RUN_WHOLE);
 }
 
 uint32_t lezgauri_run_client(lezgauri_handle *handle, lezgauri_client *prepared, const void *input, size_t input_len,
                              void *output, size_t capacity, size_t *written, lezgauri_report *report, lezgauri_fault *fault)
 {
-    return run_on(&(run_arguments){handle, prepared, NULL, 0, input, input_len, output, capacity, written, report, fault},
+    return run_on((run_arguments){handle, prepared, NULL, 0, input, input_len, output, capacity, written, report, fault},
                   RUN_CLIENT);
 }
 
@@ -1031,40 +1125,40 @@ uint32_t lezgauri_types(const lezgauri_handle *handle, lezgauri_type *types, siz
 /* ---- values in place */
 
 /* The segment that a reading export is given: the image and its types. */
-#define SEGMENT(handle) (handle)->image, (handle)->len, &flagged(handle)->types
+#define SEGMENT(handle) image_in(handle), len_of(handle), &flagged(handle)->types
 
-/* Whether memory overlaps neither the segment nor its handle. */
-static bool is_outside(const lezgauri_handle *handle, const void *at, size_t len)
+/* Whether memory overlaps neither the segment nor its handle, which aren't empty. */
+static inline bool is_outside(const lezgauri_handle *handle, const void *at, size_t len)
 {
-    return !overlap(one(at, len), handle_at(handle)) && !overlap(one(at, len), segment_at(handle));
+    return len == 0 || (!may_overlap(at, len, handle, sizeof *handle) && !may_overlap(at, len, image_in(handle), room_of(handle)));
 }
 
 /* Whether a call on this handle may return something at `at`. */
-static bool may_return(const lezgauri_handle *handle, const void *at, size_t len, size_t align)
+static inline bool may_return(const lezgauri_handle *handle, const void *at, size_t len, size_t align)
 {
     return handle != NULL && at != NULL && may_tell(at, align) && is_outside(handle, at, len);
 }
 
-static bool may_return_place(const lezgauri_handle *handle, const lezgauri_place *place)
+static inline bool may_return_place(const lezgauri_handle *handle, const lezgauri_place *place)
 {
     return may_return(handle, place, sizeof *place, _Alignof(lezgauri_place));
 }
 
 /* Begins a call that reads values, and returns something if `is_allowed`. */
-static uint32_t begin_read(const lezgauri_handle *handle, bool is_allowed)
+static inline uint32_t begin_read(const lezgauri_handle *handle, bool is_allowed)
 {
     return is_allowed ? begin_with_types(flagged(handle)) : LEZGAURI_BAD_ARGUMENT;
 }
 
 /* Ends a call on a segment, and returns its status. */
-static uint32_t end(const lezgauri_handle *handle, uint32_t status)
+static inline uint32_t end(const lezgauri_handle *handle, uint32_t status)
 {
     release(&flagged(handle)->busy);
     return status;
 }
 
 /* The bytes of a name before its zero. At most 64, so that the export refuses a name that is too long. */
-static lezgauri_bytes name_at(const char *name)
+static inline lezgauri_bytes name_at(const char *name)
 {
     if (name == NULL) {
         return (lezgauri_bytes){(const uint8_t *)or_empty(NULL), 0};
@@ -1074,9 +1168,9 @@ static lezgauri_bytes name_at(const char *name)
 }
 
 /* Whether a call that takes this name may return a place. */
-static bool may_return_by_name(const lezgauri_handle *handle, const char *name, lezgauri_bytes bytes, const lezgauri_place *place)
+static inline bool may_return_by_name(const lezgauri_handle *handle, const char *name, lezgauri_bytes bytes, const lezgauri_place *place)
 {
-    return name != NULL && may_return_place(handle, place) && !overlap(one(place, sizeof *place), (span){name, bytes.len + 1});
+    return name != NULL && may_return_place(handle, place) && !may_overlap(place, sizeof *place, name, bytes.len + 1);
 }
 
 /* ---- reading */
@@ -1099,7 +1193,7 @@ uint32_t lezgauri_find_item(const lezgauri_handle *handle, const char *name, uin
 /* An export that finds a named object by a name. */
 typedef uint32_t name_call(const uint8_t *image, size_t len, kept_types *types, const uint8_t *name, size_t name_len, raw_named *named);
 
-static uint32_t find_named(const lezgauri_handle *handle, const char *name, lezgauri_named *named, name_call *call)
+static inline uint32_t find_named(const lezgauri_handle *handle, const char *name, lezgauri_named *named, name_call *call)
 {
     uint32_t status = begin_read(handle, may_return(handle, named, sizeof *named, _Alignof(lezgauri_named)));
     if (status != LEZGAURI_OK) {
@@ -1150,7 +1244,7 @@ uint32_t lezgauri_len(const lezgauri_handle *handle, lezgauri_place place, uint3
 /* An export that finds the bytes of a value. */
 typedef uint32_t range_call(const uint8_t *image, size_t len, kept_types *types, uint32_t at, uint32_t type, raw_range *range);
 
-static uint32_t bytes_of(const lezgauri_handle *handle, lezgauri_place place, lezgauri_bytes *bytes, range_call *call)
+static inline uint32_t bytes_of(const lezgauri_handle *handle, lezgauri_place place, lezgauri_bytes *bytes, range_call *call)
 {
     uint32_t status = begin_read(handle, may_return(handle, bytes, sizeof *bytes, _Alignof(lezgauri_bytes)));
     if (status != LEZGAURI_OK) {
@@ -1217,7 +1311,7 @@ uint32_t lezgauri_get(const lezgauri_handle *handle, lezgauri_place map, int64_t
 }
 
 /* Two aligned pointers to numbers are the same or apart, so `from` is read before `key` is written. */
-static uint32_t begin_key(const lezgauri_handle *handle, const int64_t *from, const int64_t *key)
+static inline uint32_t begin_key(const lezgauri_handle *handle, const int64_t *from, const int64_t *key)
 {
     return begin_read(handle, may_tell(from, _Alignof(int64_t)) && may_return(handle, key, sizeof *key, _Alignof(int64_t)));
 }
@@ -1247,10 +1341,10 @@ uint32_t lezgauri_previous_key(const lezgauri_handle *handle, lezgauri_place map
 }
 
 /* As begin_key. The export writes the key and the place of its value, so they must not overlap. */
-static uint32_t begin_entry(const lezgauri_handle *handle, const int64_t *from, const int64_t *key, const lezgauri_place *value)
+static inline uint32_t begin_entry(const lezgauri_handle *handle, const int64_t *from, const int64_t *key, const lezgauri_place *value)
 {
     return begin_read(handle, may_tell(from, _Alignof(int64_t)) && may_return(handle, key, sizeof *key, _Alignof(int64_t)) &&
-                                  may_return_place(handle, value) && !overlap(one(key, sizeof *key), one(value, sizeof *value)));
+                                  may_return_place(handle, value) && !may_overlap(key, sizeof *key, value, sizeof *value));
 }
 
 uint32_t lezgauri_next_entry(const lezgauri_handle *handle, lezgauri_place map, const int64_t *after, int64_t *key, lezgauri_place *value)
@@ -1285,7 +1379,7 @@ uint32_t lezgauri_next_entries(const lezgauri_handle *handle, lezgauri_place map
     bool are_entries = may_be(entries, room, sizeof *entries, _Alignof(lezgauri_entry));
     size_t len = are_entries ? room * sizeof *entries : 0;
     bool is_allowed = are_entries && may_tell(after, _Alignof(int64_t)) && may_return(handle, count, sizeof *count, _Alignof(size_t)) &&
-                      is_outside(handle, entries, len) && !overlap(one(entries, len), one(count, sizeof *count));
+                      is_outside(handle, entries, len) && (len == 0 || !may_overlap(entries, len, count, sizeof *count));
     uint32_t status = begin_read(handle, is_allowed);
     if (status != LEZGAURI_OK) {
         return status;
@@ -1298,7 +1392,7 @@ uint32_t lezgauri_next_entries(const lezgauri_handle *handle, lezgauri_place map
 /* ---- changing */
 
 /* Begins a call that changes values, if its arguments are allowed. *image is the segment for the export. */
-static uint32_t begin_values(lezgauri_handle *handle, bool is_allowed, lent *image)
+static inline uint32_t begin_values(lezgauri_handle *handle, bool is_allowed, lent *image)
 {
     if (!is_allowed) {
         return LEZGAURI_BAD_ARGUMENT;
@@ -1309,7 +1403,7 @@ static uint32_t begin_values(lezgauri_handle *handle, bool is_allowed, lent *ima
 }
 
 /* Whether a changing call may take a name. */
-static bool may_take_name(const lezgauri_handle *handle, const char *name, lezgauri_bytes bytes)
+static inline bool may_take_name(const lezgauri_handle *handle, const char *name, lezgauri_bytes bytes)
 {
     return handle != NULL && name != NULL && is_outside(handle, name, bytes.len + 1);
 }
@@ -1379,7 +1473,7 @@ uint32_t lezgauri_destroy(lezgauri_handle *handle, const char *name, uint32_t ty
 /* An export that makes an object of a type, or finds it. */
 typedef uint32_t object_call(lent *image, kept_types *types, uint32_t type, lezgauri_place *place);
 
-static uint32_t make_object(lezgauri_handle *handle, uint32_t type, lezgauri_place *place, object_call *call)
+static inline uint32_t make_object(lezgauri_handle *handle, uint32_t type, lezgauri_place *place, object_call *call)
 {
     lent image;
     uint32_t status = begin_values(handle, may_return_place(handle, place), &image);
@@ -1424,7 +1518,7 @@ uint32_t lezgauri_store(lezgauri_handle *handle, lezgauri_place place, int64_t n
 /* An export that changes a string by the caller's bytes. */
 typedef uint32_t bytes_call(lent *image, kept_types *types, uint32_t at, uint32_t type, const uint8_t *bytes, size_t len);
 
-static uint32_t change_text(lezgauri_handle *handle, lezgauri_place string, const void *bytes, size_t len, bytes_call *call)
+static inline uint32_t change_text(lezgauri_handle *handle, lezgauri_place string, const void *bytes, size_t len, bytes_call *call)
 {
     lent image;
     bool is_allowed = handle != NULL && may_be_bytes(bytes, len) && is_outside(handle, bytes, len);
@@ -1445,7 +1539,7 @@ uint32_t lezgauri_append(lezgauri_handle *handle, lezgauri_place string, const v
 /* An export that makes a value in another one. */
 typedef uint32_t part_call(lent *image, kept_types *types, uint32_t at, uint32_t type, lezgauri_place *part);
 
-static uint32_t make_part(lezgauri_handle *handle, lezgauri_place whole, lezgauri_place *part, part_call *call)
+static inline uint32_t make_part(lezgauri_handle *handle, lezgauri_place whole, lezgauri_place *part, part_call *call)
 {
     lent image;
     uint32_t status = begin_values(handle, may_return_place(handle, part), &image);
@@ -1517,7 +1611,7 @@ uint32_t lezgauri_remove(lezgauri_handle *handle, lezgauri_place map, int64_t ke
 /* An export that changes a value. */
 typedef uint32_t value_call(lent *image, kept_types *types, uint32_t at, uint32_t type);
 
-static uint32_t change_value(lezgauri_handle *handle, lezgauri_place place, value_call *call)
+static inline uint32_t change_value(lezgauri_handle *handle, lezgauri_place place, value_call *call)
 {
     lent image;
     uint32_t status = begin_values(handle, handle != NULL, &image);
