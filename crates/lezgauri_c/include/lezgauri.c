@@ -442,6 +442,18 @@ static span segment_at(const lezgauri_handle *handle)
     return handle != NULL ? (span){image_in(handle), room_of(handle)} : (span){NULL, 0};
 }
 
+/* Whether memory overlaps neither the segment nor its handle, which aren't empty. */
+static inline bool is_outside(const lezgauri_handle *handle, const void *at, size_t len)
+{
+    return len == 0 || (!may_overlap(at, len, handle, sizeof *handle) && !may_overlap(at, len, image_in(handle), room_of(handle)));
+}
+
+/* Whether a call on this handle may return something at `at`. */
+static inline bool may_return(const lezgauri_handle *handle, const void *at, size_t len, size_t align)
+{
+    return handle != NULL && at != NULL && may_tell(at, align) && is_outside(handle, at, len);
+}
+
 /* The image of a segment, for calls that keep its length. */
 static inline lent image_of(const lezgauri_handle *handle)
 {
@@ -770,11 +782,10 @@ uint32_t lezgauri_shrink(lezgauri_handle *handle, size_t *size)
 
 uint32_t lezgauri_size(const lezgauri_handle *handle, size_t *size)
 {
-    span spans[] = {one(size, sizeof *size), handle_at(handle), segment_at(handle)};
-    if (handle == NULL || size == NULL || !may_tell(size, _Alignof(size_t)) || !are_apart(MEMORY(spans, 1))) {
+    if (!may_return(handle, size, sizeof *size, _Alignof(size_t))) {
         return LEZGAURI_BAD_ARGUMENT;
     }
-    *size = handle->len;
+    *size = len_of(handle);
     return LEZGAURI_OK;
 }
 
@@ -805,14 +816,13 @@ uint32_t lezgauri_free_memory(const lezgauri_handle *handle, size_t *all, size_t
 
 uint32_t lezgauri_image(const lezgauri_handle *handle, lezgauri_bytes *image)
 {
-    span spans[] = {one(image, sizeof *image), handle_at(handle), segment_at(handle)};
-    if (handle == NULL || image == NULL || !may_tell(image, _Alignof(lezgauri_bytes)) || !are_apart(MEMORY(spans, 1))) {
+    if (!may_return(handle, image, sizeof *image, _Alignof(lezgauri_bytes))) {
         return LEZGAURI_BAD_ARGUMENT;
     }
     if (!acquire(&flagged(handle)->busy)) {
         return LEZGAURI_BUSY;
     }
-    *image = (lezgauri_bytes){handle->image, handle->len};
+    *image = (lezgauri_bytes){image_in(handle), len_of(handle)};
     release(&flagged(handle)->busy);
     return LEZGAURI_OK;
 }
@@ -945,8 +955,9 @@ static uint32_t refuse_run_on(uint32_t number, run_arguments with)
 /* Whether memory might overlap what a run uses besides the caller's arguments: the handle, the segment or the prepared client. */
 static INLINED bool may_overlap_opened(run_arguments with, span image, const void *at, size_t len)
 {
+    span client = client_at(with.prepared);
     return may_overlap(at, len, with.handle, sizeof *with.handle) || may_overlap(at, len, image.at, image.len) ||
-           (with.prepared != NULL && may_overlap(at, len, with.prepared, sizeof *with.prepared + with.prepared->len));
+           (with.prepared != NULL && may_overlap(at, len, client.at, client.len));
 }
 
 /* Whether bytes might overlap a struct or the number that a run returns. */
@@ -967,7 +978,7 @@ static INLINED bool may_overlap_written(run_arguments with, span image, const vo
  * spans, which takes as many instructions as a short run. */
 static INLINED bool may_overlap_in_run(run_arguments with)
 {
-    span image = segment_at(with.handle);
+    span image = segment_at(with.handle), client = client_at(with.prepared);
     size_t fault = sizeof *with.fault, length = sizeof *with.length, report = sizeof *with.report;
     return may_overlap_opened(with, image, with.fault, fault) || may_overlap_opened(with, image, with.length, length) ||
            may_overlap_opened(with, image, with.report, report) || may_overlap(with.fault, fault, with.length, length) ||
@@ -975,8 +986,8 @@ static INLINED bool may_overlap_in_run(run_arguments with)
            (with.capacity > 0 && (may_overlap_opened(with, image, with.output, with.capacity) ||
                                   may_overlap_returned(with, with.output, with.capacity))) ||
            may_overlap(with.handle, sizeof *with.handle, image.at, image.len) ||
-           (with.prepared != NULL && (may_overlap(with.handle, sizeof *with.handle, with.prepared, sizeof *with.prepared + with.prepared->len) ||
-                                      may_overlap(image.at, image.len, with.prepared, sizeof *with.prepared + with.prepared->len))) ||
+           (with.prepared != NULL && (may_overlap(with.handle, sizeof *with.handle, client.at, client.len) ||
+                                      may_overlap(image.at, image.len, client.at, client.len))) ||
            may_overlap_written(with, image, with.client, with.client_len) || may_overlap_written(with, image, with.input, with.input_len);
 }
 
@@ -1127,18 +1138,6 @@ uint32_t lezgauri_types(const lezgauri_handle *handle, lezgauri_type *types, siz
 /* The segment that a reading export is given: the image and its types. */
 #define SEGMENT(handle) image_in(handle), len_of(handle), &flagged(handle)->types
 
-/* Whether memory overlaps neither the segment nor its handle, which aren't empty. */
-static inline bool is_outside(const lezgauri_handle *handle, const void *at, size_t len)
-{
-    return len == 0 || (!may_overlap(at, len, handle, sizeof *handle) && !may_overlap(at, len, image_in(handle), room_of(handle)));
-}
-
-/* Whether a call on this handle may return something at `at`. */
-static inline bool may_return(const lezgauri_handle *handle, const void *at, size_t len, size_t align)
-{
-    return handle != NULL && at != NULL && may_tell(at, align) && is_outside(handle, at, len);
-}
-
 static inline bool may_return_place(const lezgauri_handle *handle, const lezgauri_place *place)
 {
     return may_return(handle, place, sizeof *place, _Alignof(lezgauri_place));
@@ -1208,7 +1207,7 @@ static inline uint32_t find_named(const lezgauri_handle *handle, const char *nam
     }
     if (status == LEZGAURI_OK) {
         *named = (lezgauri_named){.type = found.type, .count = found.count};
-        memcpy(named->name, handle->image + found.at, found.len);
+        memcpy(named->name, image_in(handle) + found.at, found.len);
     }
     return end(handle, status);
 }
@@ -1253,7 +1252,7 @@ static inline uint32_t bytes_of(const lezgauri_handle *handle, lezgauri_place pl
     raw_range range;
     status = call(SEGMENT(handle), place.at, place.type, &range);
     if (status == LEZGAURI_OK) {
-        *bytes = (lezgauri_bytes){handle->image + range.at, range.len};
+        *bytes = (lezgauri_bytes){image_in(handle) + range.at, range.len};
     }
     return end(handle, status);
 }

@@ -229,7 +229,7 @@ uint32_t lezgauri_create(size_t size, uint32_t allocator, uint32_t index, lezgau
 /*
  * Like lezgauri_create, but the segment is in the caller's memory, as after lezgauri_open_in. It has `size` bytes from `memory` on, all of
  * which are written, and may grow up to `room` bytes. LEZGAURI_NO_HOST_ROOM if `room` is less than `size`. If the status isn't
- * LEZGAURI_OK, the memory is unchanged.
+ * LEZGAURI_OK, the memory is unchanged. The caller promises that no handle is open on the memory.
  */
 uint32_t lezgauri_create_in(void *memory, size_t room, size_t size, uint32_t allocator, uint32_t index, lezgauri_handle **handle);
 
