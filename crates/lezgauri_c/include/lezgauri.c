@@ -31,11 +31,11 @@ typedef struct kept {
     bool is_there;
 } kept;
 
-/* The types of a segment as calls on values and clients need them, or none. It is `KeptTypes` of the crate lezgauri_c. Only the library
- * reads and writes what `at` points to. */
+/* The types of a segment as calls on values and clients need them, or none. It is `KeptTypes` of the crate lezgauri_c: `count` is 1 or 0.
+ * Only the library reads and writes what `at` points to. */
 typedef struct kept_types {
     void *at;
-    bool is_there;
+    uint64_t count;
 } kept_types;
 
 /* Bytes of an image: a position and a length. It is `ByteRange` of the crate lezgauri_c. */
@@ -503,7 +503,7 @@ static lezgauri_handle *new_handle(uint8_t *place, size_t len, size_t room, memo
         atomic_init(&made->room, room);
         made->kind = kind;
         atomic_init(&made->busy, false);
-        made->types = (kept_types){NULL, false};
+        made->types = (kept_types){NULL, 0};
         made->sign = MAGIC_AT;
     }
     return made;

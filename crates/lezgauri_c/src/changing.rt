@@ -37,6 +37,8 @@ pub(crate) use on_image;
 
 /// Opens an image that an earlier call found sound, or changed, with the types that C keeps. Its memory is then the open image's.
 /// Returns `BAD_ARGUMENT` if C keeps no types, and the number of `BadHeader` if the image is longer than any segment.
+// Inlined in each export, as `close_image` is. So the image's parts stay in registers.
+#[inline(always)]
 #[tactic(auto, using(crate::proofs::Numbers::numbers))]
 pub(crate) fn open_image(
     alloc: Global,
@@ -69,6 +71,7 @@ pub(crate) fn open_image(
 }
 
 /// Gives the memory of an open image back, and keeps its types.
+#[inline(always)]
 pub(crate) fn close_image(
     alloc: Global,
     lent: &mut Lent,

@@ -33,6 +33,7 @@ impl KeptImage {
     }
 
     /// Puts the image in a window, on the allocator that the window's header selects.
+    #[inline(always)]
     pub(crate) fn enter(&mut self, window: Window<Lodged>)
         ensures window { (segment_of self.new.image).window ≡ window }
         ensures types { table_kept self.new ≡ table_kept self.old }
@@ -42,9 +43,21 @@ impl KeptImage {
         if window.get32(header::ALLOCATOR) == allocator_of(&self.image) {
             drop(swap_windows(&mut self.image, window));
         } else {
-            let types = self.image.types().copy();
-            self.image = Image::in_window(window, types);
+            self.enter_anew(window);
         }
+    }
+
+    /// Puts the image in a window on another allocator, and lays its types out again.
+    // Not inlined, since it takes three KiB of stack, and is rarely needed.
+    #[inline(never)]
+    fn enter_anew(&mut self, window: Window<Lodged>)
+        ensures window { (segment_of self.new.image).window ≡ window }
+        ensures types { table_kept self.new ≡ table_kept self.old }
+        ensures allocator { word window.bytes allocator_word ≤ 1 →
+            allocator_of self.new.image ≡ word window.bytes allocator_word }
+    {
+        let types = self.image.types().copy();
+        self.image = Image::in_window(window, types);
     }
 
     /// Takes the image's window. No bytes are left.

@@ -1,4 +1,4 @@
-ghost use Rattle.std.specs.Prelude.{◌≡◌, Some, None, MatchOption, is_some};
+ghost use Rattle.std.specs.Prelude.{◌≡◌, Some, None, MatchOption, is_some, nat_eq};
 ghost use Rattle.lezgauri_c.specs.KeptImages.{table_kept, table_of};
 
 use crate::kept_image::KeptImage;
@@ -6,12 +6,13 @@ use crate::types_box::TypesBox;
 use std::alloc::Global;
 use std::mem::replace;
 
-/// The types of a segment that C keeps, in an image without bytes, and whether there are any.
+/// The types of a segment that C keeps, in an image without bytes, and how many images there are: 1 or 0.
+// The number has as many bits as the pointer, since a `bool` would be written with its padding.
 #[repr(C)]
 pub struct KeptTypes {
     kept: TypesBox,
-    is_there: bool,
-    ghost told: { is_some kept.image ≡ is_there },
+    count: u64,
+    ghost told: { is_some kept.image ≡ nat_eq count 1 },
 }
 
 impl KeptTypes {
@@ -21,8 +22,8 @@ impl KeptTypes {
             (λ types. table_of self.old.kept.image ≡ Some (table_kept types.value)) }
         ensures none { table_of self.new.kept.image ≡ None }
     {
-        let KeptTypes { kept, is_there } = replace(self, none());
-        if is_there {
+        let KeptTypes { kept, count } = replace(self, none());
+        if count == 1 {
             Some(kept.into_box(alloc))
         } else {
             kept.let_go();
@@ -37,9 +38,9 @@ impl KeptTypes {
         self.close(alloc);
         let made = KeptTypes {
             kept: TypesBox::of(types),
-            is_there: true,
+            count: 1,
         };
-        let KeptTypes { kept, is_there: _ } = replace(self, made);
+        let KeptTypes { kept, count: _ } = replace(self, made);
         kept.let_go();
     }
 
@@ -56,6 +57,6 @@ fn none() -> KeptTypes
 {
     KeptTypes {
         kept: TypesBox::none(),
-        is_there: false,
+        count: 0,
     }
 }
