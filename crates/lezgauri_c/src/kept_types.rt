@@ -35,20 +35,27 @@ impl KeptTypes {
     pub(crate) fn keep(&mut self, alloc: Global, types: Box<KeptImage>)
         ensures { table_of self.new.kept.image ≡ Some (table_kept types.value) }
     {
-        self.close(alloc);
         let made = KeptTypes {
             kept: TypesBox::of(types),
             count: 1,
         };
-        let KeptTypes { kept, count: _ } = replace(self, made);
-        kept.let_go();
+        close(alloc, replace(self, made));
     }
 
     /// Frees the types, if there are any.
     pub(crate) fn close(&mut self, alloc: Global)
         ensures { table_of self.new.kept.image ≡ None }
     {
-        drop(self.take(alloc));
+        close(alloc, replace(self, none()));
+    }
+}
+
+fn close(alloc: Global, types: KeptTypes) {
+    let KeptTypes { kept, count } = types;
+    if count == 1 {
+        drop(kept.into_box(alloc));
+    } else {
+        kept.let_go();
     }
 }
 
