@@ -9,11 +9,14 @@
 #include <stdlib.h>
 #include <string.h>
 
-/* A function that is compiled into each of its callers, so that it costs only what that caller needs. */
+/* A function that is compiled into each of its callers, so that it costs only what that caller needs, and one that isn't, so that its
+ * caller saves no registers for it. */
 #ifdef __GNUC__
 #define INLINED inline __attribute__((always_inline))
+#define APART __attribute__((noinline))
 #else
 #define INLINED inline
+#define APART
 #endif
 
 /* Memory that a call lends to the library: its start, the number of bytes in use, and its capacity in bytes. It is `Lent` of the
@@ -405,13 +408,14 @@ typedef enum memory_kind {
     LENT_TO_READ, /* the caller's, which no call writes */
 } memory_kind;
 
-/* The first three members are atomic because a call reads them before it knows whether another call uses the segment. */
+/* The first four members are atomic because a call uses them before it knows whether another call uses the segment. `busy` is the first
+ * one, since an exchange with it then takes no instruction for its address. */
 struct lezgauri_handle {
+    atomic_bool busy; /* while a call uses the segment */
     _Atomic(uint8_t *) image;
     atomic_size_t len;
     atomic_size_t room; /* the bytes from `image` on that the segment may grow into */
     memory_kind kind;
-    atomic_bool busy; /* while a call uses the segment */
     kept_types types; /* none before the first call on values or clients, unless the segment is open only for reading */
     uint32_t sign;    /* the position of a byte of the image that is 0 as long as `types` are the image's */
 };
@@ -473,7 +477,7 @@ static inline void release(atomic_bool *busy)
 }
 
 /* Begins a call that changes a segment: marks it as busy. LEZGAURI_OK, or why the call is refused. */
-static uint32_t begin_change(lezgauri_handle *handle)
+static inline uint32_t begin_change(lezgauri_handle *handle)
 {
     if (handle->kind == LENT_TO_READ) {
         return LEZGAURI_READ_ONLY;
@@ -525,10 +529,10 @@ static uint32_t read_types(lezgauri_handle *handle)
     return status;
 }
 
-/* Whether the types that the handle keeps are the segment's. Other handles and runs may have added types. */
-static inline bool has_types(const lezgauri_handle *handle)
+/* Whether the types that the handle keeps are those of its image. Other handles and runs may have added types. */
+static inline bool has_types(const lezgauri_handle *handle, const uint8_t *image)
 {
-    return image_in(handle)[handle->sign] == 0;
+    return image[handle->sign] == 0;
 }
 
 /* Reads the new types of a segment that the call has marked as busy. Ends the call if they can't be read. */
@@ -547,7 +551,7 @@ static inline uint32_t begin_with_types(lezgauri_handle *handle)
     if (!acquire(&handle->busy)) {
         return LEZGAURI_BUSY;
     }
-    return has_types(handle) ? LEZGAURI_OK : begin_with_new_types(handle);
+    return has_types(handle, image_in(handle)) ? LEZGAURI_OK : begin_with_new_types(handle);
 }
 
 /* The same for a call that changes the segment. */
@@ -1156,14 +1160,15 @@ static inline uint32_t end(const lezgauri_handle *handle, uint32_t status)
     return status;
 }
 
-/* The bytes of a name before its zero. At most 64, so that the export refuses a name that is too long. */
+/* The bytes of a name before its zero. At most 64, so that the export refuses a name that is too long. A loop, because most names are
+ * short: memchr takes as long as seven turns, and the registers that its caller saves for it. */
 static inline lezgauri_bytes name_at(const char *name)
 {
-    if (name == NULL) {
-        return (lezgauri_bytes){(const uint8_t *)or_empty(NULL), 0};
+    size_t len = 0;
+    while (name != NULL && len <= MOST_NAME && name[len] != 0) {
+        len++;
     }
-    const char *zero = memchr(name, 0, MOST_NAME + 1);
-    return (lezgauri_bytes){(const uint8_t *)name, zero != NULL ? (size_t)(zero - name) : MOST_NAME + 1};
+    return (lezgauri_bytes){or_empty(name), len};
 }
 
 /* Whether a call that takes this name may return a place. */
@@ -1228,10 +1233,27 @@ uint32_t lezgauri_find_unique(const lezgauri_handle *handle, uint32_t type, lezg
     return status != LEZGAURI_OK ? status : end(handle, lezgauri_raw_find_unique(SEGMENT(handle), type, place));
 }
 
+/* The rest of lezgauri_load on a segment that has new types. */
+APART static uint32_t load_with_new_types(const lezgauri_handle *handle, lezgauri_place place, int64_t *number)
+{
+    uint32_t status = begin_with_new_types(flagged(handle));
+    return status != LEZGAURI_OK ? status : end(handle, lezgauri_raw_load(SEGMENT(handle), place.at, place.type, number));
+}
+
+/* This call, lezgauri_get and lezgauri_store are made once for each value, so that they take few instructions. */
 uint32_t lezgauri_load(const lezgauri_handle *handle, lezgauri_place place, int64_t *number)
 {
-    uint32_t status = begin_read(handle, may_return(handle, number, sizeof *number, _Alignof(int64_t)));
-    return status != LEZGAURI_OK ? status : end(handle, lezgauri_raw_load(SEGMENT(handle), place.at, place.type, number));
+    if (!may_return(handle, number, sizeof *number, _Alignof(int64_t))) {
+        return LEZGAURI_BAD_ARGUMENT;
+    }
+    if (!acquire(&flagged(handle)->busy)) {
+        return LEZGAURI_BUSY;
+    }
+    const uint8_t *image = image_in(handle);
+    if (!has_types(handle, image)) {
+        return load_with_new_types(handle, place, number);
+    }
+    return end(handle, lezgauri_raw_load(image, len_of(handle), &flagged(handle)->types, place.at, place.type, number));
 }
 
 uint32_t lezgauri_len(const lezgauri_handle *handle, lezgauri_place place, uint32_t *len)
@@ -1303,10 +1325,26 @@ uint32_t lezgauri_content(const lezgauri_handle *handle, lezgauri_place own, lez
     return status != LEZGAURI_OK ? status : end(handle, lezgauri_raw_content(SEGMENT(handle), own.at, own.type, content));
 }
 
+/* The rest of lezgauri_get on a segment that has new types. */
+APART static uint32_t get_with_new_types(const lezgauri_handle *handle, lezgauri_place map, int64_t key, lezgauri_place *value)
+{
+    uint32_t status = begin_with_new_types(flagged(handle));
+    return status != LEZGAURI_OK ? status : end(handle, lezgauri_raw_get(SEGMENT(handle), map.at, map.type, key, value));
+}
+
 uint32_t lezgauri_get(const lezgauri_handle *handle, lezgauri_place map, int64_t key, lezgauri_place *value)
 {
-    uint32_t status = begin_read(handle, may_return_place(handle, value));
-    return status != LEZGAURI_OK ? status : end(handle, lezgauri_raw_get(SEGMENT(handle), map.at, map.type, key, value));
+    if (!may_return_place(handle, value)) {
+        return LEZGAURI_BAD_ARGUMENT;
+    }
+    if (!acquire(&flagged(handle)->busy)) {
+        return LEZGAURI_BUSY;
+    }
+    const uint8_t *image = image_in(handle);
+    if (!has_types(handle, image)) {
+        return get_with_new_types(handle, map, key, value);
+    }
+    return end(handle, lezgauri_raw_get(image, len_of(handle), &flagged(handle)->types, map.at, map.type, key, value));
 }
 
 /* Two aligned pointers to numbers are the same or apart, so `from` is read before `key` is written. */
@@ -1508,10 +1546,27 @@ uint32_t lezgauri_destroy_anonymous(lezgauri_handle *handle, lezgauri_place obje
     return status != LEZGAURI_OK ? status : end(handle, lezgauri_raw_destroy_anonymous(&image, &handle->types, object.at));
 }
 
+/* The rest of lezgauri_store on a segment that has new types. */
+APART static uint32_t store_with_new_types(lezgauri_handle *handle, lezgauri_place place, int64_t number)
+{
+    uint32_t status = begin_with_new_types(handle);
+    return status != LEZGAURI_OK ? status : end(handle, lezgauri_raw_store(SEGMENT(handle), place.at, place.type, number));
+}
+
 uint32_t lezgauri_store(lezgauri_handle *handle, lezgauri_place place, int64_t number)
 {
-    uint32_t status = handle != NULL ? begin_change_with_types(handle) : LEZGAURI_BAD_ARGUMENT;
-    return status != LEZGAURI_OK ? status : end(handle, lezgauri_raw_store(SEGMENT(handle), place.at, place.type, number));
+    if (handle == NULL) {
+        return LEZGAURI_BAD_ARGUMENT;
+    }
+    uint32_t status = begin_change(handle);
+    if (status != LEZGAURI_OK) {
+        return status;
+    }
+    uint8_t *image = image_in(handle);
+    if (!has_types(handle, image)) {
+        return store_with_new_types(handle, place, number);
+    }
+    return end(handle, lezgauri_raw_store(image, len_of(handle), &flagged(handle)->types, place.at, place.type, number));
 }
 
 /* An export that changes a string by the caller's bytes. */
