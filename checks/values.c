@@ -852,9 +852,18 @@ static void types(void)
     expect("add too many types", lezgauri_add_types(handle, changed, LEZGAURI_MOST_TYPES + 1, &fault), LEZGAURI_BAD_TYPE);
     expect("add too many types: position", fault.position, LEZGAURI_MOST_TYPES);
     expect("add types, refused: as before", (uint64_t)memcmp(memory + 64, table, sizeof table), 0);
-    done("add all types", lezgauri_add_types(handle, changed, LEZGAURI_MOST_TYPES, &fault));
+    /* the other handle finds each new type, also the one in the last entry of the table */
+    for (uint32_t i = TYPES; i < LEZGAURI_MOST_TYPES; i++) {
+        expect("construct, the next type", lezgauri_construct_unique(other, i, &place), LEZGAURI_OTHER_TYPE);
+        done("add a type", lezgauri_add_types(handle, changed, i + 1, &fault));
+        done("construct, a new type", lezgauri_construct_unique(other, i, &place));
+        expect("a new type: number", (uint64_t)number_at(other, place), 0);
+        done("destroy, a new type", lezgauri_destroy_unique(handle, i));
+    }
+    done("add all types again", lezgauri_add_types(handle, changed, LEZGAURI_MOST_TYPES, &fault));
     is_sound("add types: sound", handle);
     done("find, the last type", lezgauri_construct(handle, "last", LEZGAURI_MOST_TYPES - 1, 1, &place));
+    done("find by the other handle, the last type", lezgauri_find(other, "last", LEZGAURI_MOST_TYPES - 1, &place));
     lezgauri_close(handle);
     lezgauri_close(other);
     free_memory(memory);
