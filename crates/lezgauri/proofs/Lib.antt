@@ -8,6 +8,8 @@ pub use Rattle.client_vm.proofs.TogetherLaws
 pub use Rattle.seg_image.proofs.WholeRegionLaws
 -- numbers that were appended to a vector
 pub use Rattle.seg_image.proofs.NumberPushLaws
+-- numbers that were put into a map by their keys
+pub use Rattle.seg_image.proofs.NumberPutLaws
 -- an image keeps its size
 pub use Rattle.client_sim.proofs.ImageSizeLaws
 -- named and unique objects stay where they are

@@ -20,6 +20,7 @@ pub use Rattle.seg_image.specs.Owners
 pub use Rattle.seg_image.specs.Iterators
 pub use Rattle.seg_image.specs.TypeLists
 pub use Rattle.seg_image.specs.NumberPushes
+pub use Rattle.seg_image.specs.NumberPuts
 pub use Rattle.seg_image.specs.Forms
 pub use Rattle.seg_image.specs.Faults
 pub use Rattle.seg_image.specs.Stored
@@ -52,7 +53,8 @@ pub use Rattle.client_vm.specs.ReadyClients
 pub use Rattle.seg_raw.specs.declared.fault.Fault
 pub use Rattle.seg_raw.specs.declared.code.Code
 pub use Rattle.seg_image.specs.declared.error.Error
-pub use Rattle.seg_image.specs.declared.error.PushStopped
+pub use Rattle.seg_image.specs.declared.error.StoppedAt
+pub use Rattle.seg_image.specs.declared.maps.Pair
 -- runs: `run`, and `run_bytes` with `run_image`
 pub use Rattle.client_vm.specs.Runs
 pub use Rattle.client_vm.specs.Jobs

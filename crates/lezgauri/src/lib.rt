@@ -21,7 +21,7 @@ pub use lending::lend;
 pub use seg_image::{
     AllocatorKind, BestFit, CheckedImage, Code, ENTRY, Entries, Error, Fault, Fields, Fit, Heap,
     Image, ImageRead, IndexKind, Items, Keys, MAX_LEN, MAX_NAME, MAX_TYPES, MIN_LEN, Named, Names,
-    Numbers, Place, PushStopped, Reader, Region, Segment, SegmentRead, SeqFit, Type, TypeId,
+    Numbers, Pair, Place, Reader, Region, Segment, SegmentRead, SeqFit, StoppedAt, Type, TypeId,
     TypeTable, Unopened, View, Window, check, is_size, read_types, type_table,
 };
 pub use std_alloc::vec::Lodged;

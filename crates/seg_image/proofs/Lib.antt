@@ -5,3 +5,5 @@ pub mod PutContent
 pub mod IteratorLaws
 pub mod TypeListLaws
 pub mod NumberPushLaws
+pub mod PartStoreLaws
+pub mod NumberPutLaws

@@ -13,7 +13,7 @@ use Rattle.seg_raw.specs.declared.code.Code.TheVariants.{BadAlloc}
 use Rattle.seg_value.specs.Stored.{Stored}
 use Rattle.seg_value.proofs.Inside.{changes_twice}
 use Rattle.seg_seq.specs.Sequences.{HasItems, PushesNumber}
-use Rattle.seg_image.specs.declared.error.PushStopped.{PushStopped}
+use Rattle.seg_image.specs.declared.error.StoppedAt.{StoppedAt}
 use Rattle.seg_image.specs.NumberPushes.{number_values, PushesNumbers, StopsPushing}
 
 -- a number is appended after the others
@@ -77,16 +77,16 @@ items_then allocator old new place U vs ws blocks it a = record {
 }
 
 -- There was no room for one of the numbers. Those before it are appended, and nothing else changed.
-pub record AppendsFirst (old new : Stored) (place : Place) (vs : Values) (blocks : List ℕ) (numbers : List ℤ) (stopped : PushStopped) : Type 0 where
+pub record AppendsFirst (old new : Stored) (place : Place) (vs : Values) (blocks : List ℕ) (numbers : List ℤ) (stopped : StoppedAt) : Type 0 where
   pub code_is : stopped.code ≡ BadAlloc
   pub before : Stored
-  pub appends : Appends old before place (append vs (number_values (take stopped.pushed numbers))) blocks
+  pub appends : Appends old before place (append vs (number_values (take stopped.done numbers))) blocks
   pub same : new.window.bytes ≡ before.window.bytes
 
-pub appended_first : (allocator : ℕ) (old new : Stored) (place : Place) (numbers : List ℤ) (stopped : PushStopped) → StopsPushing allocator old new place numbers stopped
+pub appended_first : (allocator : ℕ) (old new : Stored) (place : Place) (numbers : List ℤ) (stopped : StoppedAt) → StopsPushing allocator old new place numbers stopped
     → (U : ℕ) (vs : Values) (blocks : List ℕ) → HasItems allocator old place U vs blocks → form_at old.types U ≡ Some Form.i64 → AppendsFirst old new place vs blocks numbers stopped
 appended_first allocator old new place numbers stopped stops U vs blocks it number =
-    let first = take stopped.pushed numbers in
+    let first = take stopped.done numbers in
     let us = append vs (number_values first) in
     let a = appended allocator old stops.before place first stops.pushes U vs blocks it number in
     let lacks = stops.refused U us a.others (items_then allocator old stops.before place U vs us blocks it a) (ap (λ (t : Table). form_at t U) a.types_kept ∙ number) in

@@ -6,6 +6,7 @@ pub mod Owners
 pub mod Iterators
 pub mod TypeLists
 pub mod NumberPushes
+pub mod NumberPuts
 -- the words of the crates below that the contracts cite
 pub use Rattle.seg_value.specs.Stored
 pub use Rattle.seg_manager.specs.NewSegments

@@ -9,7 +9,7 @@ use Rattle.seg_spec.specs.Reads.{Place}
 use Rattle.seg_spec.specs.Value.{Values, nil, cons, Int}
 use Rattle.seg_value.specs.Stored.{Stored}
 use Rattle.seg_seq.specs.Sequences.{PushesNumber}
-use Rattle.seg_image.specs.declared.error.PushStopped.{PushStopped}
+use Rattle.seg_image.specs.declared.error.StoppedAt.{StoppedAt}
 
 abbrev pub number_values : List ℤ → Values
 number_values [] = nil
@@ -25,9 +25,9 @@ PushesNumbers allocator old new place (number ∷ numbers) =
 
 -- The numbers before the one that was refused were appended.
 pub record StopsPushing (allocator : ℕ) (old new : Stored) (place : Place) (numbers : List ℤ)
-    (stopped : PushStopped) : Type 0 where
+    (stopped : StoppedAt) : Type 0 where
   pub next : ℤ
-  pub next_is : slice_get numbers stopped.pushed ≡ Some next
+  pub next_is : slice_get numbers stopped.done ≡ Some next
   pub before : Stored
-  pub pushes : PushesNumbers allocator old before place (take stopped.pushed numbers)
+  pub pushes : PushesNumbers allocator old before place (take stopped.done numbers)
   pub refused : PushesNumber allocator before new place next (Err stopped.code)

@@ -9,6 +9,7 @@
 --     object_type form            the type of the objects that they own
 --     shared_type form            the type of the objects to which they point as shared cells
 --     HasPairs table T            values of a type are flat maps of numbers
+--     HasNumberValues table T     values of a type are flat maps or maps of numbers
 --     StandsIn image place v blocks   the place contains v, and owns these blocks
 --     WhereMap allocator segment map claim
 --                                 the claim is true of the map at a place
@@ -27,7 +28,7 @@ use Rattle.seg_manager.specs.declared.names.Found.{Found}
 use Rattle.seg_value.specs.Place.{Place}
 use Rattle.seg_value.specs.CellPlaces.{place_of}
 use Rattle.seg_value.specs.Stored.{Stored}
-use Rattle.seg_map.specs.EitherMap.{WhereMaps}
+use Rattle.seg_map.specs.EitherMap.{IsMapOf, WhereMaps}
 use Rattle.seg_map.specs.declared.key_value.KeyValue.{KeyValue}
 use Rattle.seg_image.specs.declared.image.Image.{Image}
 use Rattle.seg_image.specs.Images.{allocator_of, bytes_in, types_of}
@@ -85,6 +86,12 @@ shared_type _ = None
 pub record HasPairs (table : Table) (T : ℕ) : Type 0 where
   pub value : ℕ
   pub map_is : form_at table T ≡ Some (Form.flat_map value)
+  pub number_is : form_at table value ≡ Some Form.i64
+
+-- the values of a type are flat maps or maps of numbers
+pub record HasNumberValues (table : Table) (T : ℕ) : Type 0 where
+  pub value : ℕ
+  pub map_is : IsMapOf (form_at table T) value
   pub number_is : form_at table value ≡ Some Form.i64
 
 -- ---- values

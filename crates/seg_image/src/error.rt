@@ -26,23 +26,23 @@ impl fmt::Display for Error {
 
 impl std::error::Error for Error {}
 
-/// Why not all numbers were appended to a vector. Those before the one that was refused are in the vector.
+/// Where a call with several numbers or entries stopped. What was done before the one that was refused stays.
 #[derive(Debug, Clone, Copy, PartialEq, Eq)]
-pub struct PushStopped {
-    /// How many numbers were appended.
-    pub pushed: usize,
+pub struct StoppedAt {
+    /// How many numbers or entries were done.
+    pub done: usize,
     /// Why the next one wasn't: `BadAlloc` if there is no room.
     pub code: Code,
 }
 
-impl fmt::Display for PushStopped {
+impl fmt::Display for StoppedAt {
     fn fmt<W: fmt::Write>(&self, f: &mut fmt::Formatter<W>) -> fmt::Result {
-        let PushStopped { pushed, code } = self;
-        write!(f, "only {pushed} numbers were appended: {code}")
+        let StoppedAt { done, code } = self;
+        write!(f, "stopped after {done}: {code}")
     }
 }
 
-impl std::error::Error for PushStopped {}
+impl std::error::Error for StoppedAt {}
 
 impl From<Fault> for Error {
     ghost from_gives = { λ fault made. made ≡ error.Fault fault };

@@ -26,9 +26,10 @@ mod values;
 
 pub use checked::CheckedImage;
 pub use creating::AllocatorKind;
-pub use error::{Error, PushStopped};
+pub use error::{Error, StoppedAt};
 pub use image::Image;
 pub use iterators::{Entries, Items, Keys, Names};
+pub use maps::Pair;
 pub use opening::{Unopened, check};
 pub use read::ImageRead;
 pub use seg_bestfit::BestFit;

@@ -4,7 +4,7 @@ ghost use Rattle.seg_layout.specs.Forms.{form_of};
 ghost use Rattle.seg_seq.specs.Kinds.{HasNumbers};
 ghost use Rattle.seg_seq.specs.Sequences.{item_type};
 ghost use Rattle.seg_map.specs.EitherMap.{has_keys, IsMapOf};
-ghost use Rattle.seg_image.specs.Places.{found_position, found_entry, is_list, object_type, shared_type, HasPairs};
+ghost use Rattle.seg_image.specs.Places.{found_position, found_entry, is_list, object_type, shared_type, HasPairs, HasNumberValues};
 
 use seg_layout::{MAX_TYPES, Type, TypeId};
 use seg_map::KeyValue;
@@ -148,6 +148,20 @@ pub(crate) fn expect_pairs<S: SegmentRead>(source: &S, place: Place) -> Result<(
     let Type::FlatMap(value) = type_at(source, place)? else {
         return Err(Code::OtherType);
     };
+    let Some(Type::I64) = source.types().kind(value) else {
+        return Err(Code::OtherType);
+    };
+    Ok(())
+}
+
+/// `OtherType` if the place isn't a flat map or a map whose values are numbers.
+pub(crate) fn expect_number_values<S: SegmentRead>(source: &S, place: Place) -> Result<(), Code>
+    ensures { MatchResult result
+        (λ _. HasNumberValues (S.stored source.now).types place.type_id)
+        (λ code. (code ≡ Code.OtherType)
+        × ¬ HasNumberValues (S.stored source.now).types place.type_id) }
+{
+    let value = value_type_at(source, place)?;
     let Some(Type::I64) = source.types().kind(value) else {
         return Err(Code::OtherType);
     };

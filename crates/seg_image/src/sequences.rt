@@ -16,7 +16,7 @@ ghost use Rattle.seg_image.specs.Images.{segment_of, allocator_of, bytes_in, typ
 ghost use Rattle.seg_image.specs.NumberPushes.{PushesNumbers, StopsPushing};
 ghost use Rattle.seg_image.specs.Places.{found_position, StandsIn};
 
-use crate::error::PushStopped;
+use crate::error::StoppedAt;
 use crate::image::{Image, on};
 use crate::places::{item_type_at, placed, type_at};
 use seg_layout::Type;
@@ -108,9 +108,9 @@ impl<A: Allocator> Image<A> {
     }
 
     /// Adds numbers at the end of a vector of numbers, one after another. If there is no room for one of them, those
-    /// before it stay, and [`PushStopped`] tells how many they are. The numbers of the vector may move, so earlier
+    /// before it stay, and [`StoppedAt`] tells how many they are. The numbers of the vector may move, so earlier
     /// places in it become invalid.
-    pub fn push_numbers(&mut self, vector: Numbers, numbers: &[i64]) -> Result<(), PushStopped>
+    pub fn push_numbers(&mut self, vector: Numbers, numbers: &[i64]) -> Result<(), StoppedAt>
         ensures bytes { ChangesBytes self.old self.new }
         ensures all { OnOk result (PushesNumbers (allocator_of self.old) (segment_of self.old)
             (segment_of self.new) (place_of vector.vector) numbers.now) }
@@ -221,7 +221,7 @@ fn push_each<F: Fit, A: Allocator>(
     heap: &mut Heap<F, A>,
     vector: Numbers,
     numbers: &[i64],
-) -> Result<(), PushStopped>
+) -> Result<(), StoppedAt>
     ensures window { KeepsHost heap.old.window heap.new.window }
     ensures types { heap.new.types ≡ heap.old.types }
     ensures all { OnOk result (PushesNumbers F.allocator heap.old heap.new
@@ -231,7 +231,7 @@ fn push_each<F: Fit, A: Allocator>(
 {
     for (pushed, number) in numbers.iter().enumerate() {
         if let Err(code) = vector.push(heap, *number) {
-            return Err(PushStopped { pushed, code });
+            return Err(StoppedAt { done: pushed, code });
         }
     }
     Ok(())
