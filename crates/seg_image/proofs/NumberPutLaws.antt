@@ -105,15 +105,15 @@ pub record Receives (old new : Stored) (map : Place) (entries : List ℤ × Valu
   pub changes : ChangesPlace old.window.bytes new.window.bytes old.types map (Map entries.0 entries.1) others spans blocks others
   pub types_kept : new.types ≡ old.types
 
--- The place is a map of numbers, and has these keys and values.
-pub record HasNumbers (allocator : ℕ) (segment : Stored) (map : Place) (U : ℕ) (entries : List ℤ × Values) (blocks : List ℕ) : Type 0 where
+-- The place has a map of numbers, with these keys and values.
+pub record HasNumberMap (allocator : ℕ) (segment : Stored) (map : Place) (U : ℕ) (entries : List ℤ × Values) (blocks : List ℕ) : Type 0 where
   pub map_is : IsMapOf (form_at segment.types map.type) U
   pub number_is : form_at segment.types U ≡ Some Form.i64
   pub stands : Stands allocator segment.window.bytes segment.types map (Map entries.0 entries.1) blocks
 
 -- one key gets its number
 pub number_put : (allocator : ℕ) (old new : Stored) (map : Place) (pair : Pair) → PutsNumber allocator old new map pair
-    → (U : ℕ) (entries : List ℤ × Values) (blocks : List ℕ) → HasNumbers allocator old map U entries blocks → Receives old new map (with_number entries pair) blocks
+    → (U : ℕ) (entries : List ℤ × Values) (blocks : List ℕ) → HasNumberMap allocator old map U entries blocks → Receives old new map (with_number entries pair) blocks
 number_put allocator old new map pair puts U entries blocks it = by (key_place entries.0 pair.key) refl (puts.puts U entries.0 entries.1 blocks it.map_is it.stands)
   where
     before : List ℕ
@@ -161,8 +161,8 @@ number_put allocator old new map pair puts U entries blocks it = by (key_place e
         }
 
 -- the map afterwards
-pub numbers_then : (allocator : ℕ) (old new : Stored) (map : Place) (U : ℕ) (entries others : List ℤ × Values) (blocks : List ℕ) → HasNumbers allocator old map U entries blocks → (r : Receives old new map others blocks)
-    → HasNumbers allocator new map U others r.others
+pub numbers_then : (allocator : ℕ) (old new : Stored) (map : Place) (U : ℕ) (entries others : List ℤ × Values) (blocks : List ℕ) → HasNumberMap allocator old map U entries blocks → (r : Receives old new map others blocks)
+    → HasNumberMap allocator new map U others r.others
 numbers_then allocator old new map U entries others blocks it r = record {
   map_is = subst (λ (t : Table). IsMapOf (form_at t map.type) U) (sym r.types_kept) it.map_is;
   number_is = ap (λ (t : Table). form_at t U) r.types_kept ∙ it.number_is;
@@ -172,7 +172,7 @@ numbers_then allocator old new map U entries others blocks it r = record {
 
 -- all keys get their numbers
 pub numbers_put : (allocator : ℕ) (old new : Stored) (map : Place) (pairs : List Pair) → PutsNumbers allocator old new map pairs
-    → (U : ℕ) (entries : List ℤ × Values) (blocks : List ℕ) → HasNumbers allocator old map U entries blocks → Receives old new map (with_numbers entries pairs) blocks
+    → (U : ℕ) (entries : List ℤ × Values) (blocks : List ℕ) → HasNumberMap allocator old map U entries blocks → Receives old new map (with_numbers entries pairs) blocks
 numbers_put allocator old new map [] chain U entries blocks it =
     let bytes = old.window.bytes in
     let was = Map entries.0 entries.1 in
@@ -198,7 +198,7 @@ pub record ReceivesFirst (old new : Stored) (map : Place) (entries : List ℤ ×
   pub same : new.window.bytes ≡ before.window.bytes
 
 pub numbers_put_first : (allocator : ℕ) (old new : Stored) (map : Place) (pairs : List Pair) (stopped : StoppedAt) → StopsPutting allocator old new map pairs stopped
-    → (U : ℕ) (entries : List ℤ × Values) (blocks : List ℕ) → HasNumbers allocator old map U entries blocks → ReceivesFirst old new map entries blocks pairs stopped
+    → (U : ℕ) (entries : List ℤ × Values) (blocks : List ℕ) → HasNumberMap allocator old map U entries blocks → ReceivesFirst old new map entries blocks pairs stopped
 numbers_put_first allocator old new map pairs stopped stops U entries blocks it =
     let first = take stopped.done pairs in
     let last = with_numbers entries first in
