@@ -37,16 +37,20 @@ use Rattle.lezgauri.specs.CellPlaces.{place_of}
 use Rattle.lezgauri.specs.EitherMap.{has_keys, IsMapOf, key_asks, KeepsKeysBut}
 use Rattle.lezgauri.specs.Maps.{PutsKey, RemovesKey}
 use Rattle.lezgauri.specs.Owners.{PutsNew, AreShared}
-use Rattle.lezgauri.specs.Places.{found_position, object_type}
+use Rattle.lezgauri.specs.Places.{found_position, object_type, HasNumberValues}
 use Rattle.lezgauri.specs.NumberPushes.{number_values, PushesNumbers, StopsPushing}
-use Rattle.lezgauri.specs.PushStopped.{PushStopped}
+use Rattle.lezgauri.specs.NumberPuts.{with_numbers, PutsNumbers, StopsPutting}
+use Rattle.lezgauri.specs.Pair.{Pair}
+use Rattle.lezgauri.specs.StoppedAt.{StoppedAt}
 use Rattle.lezgauri.proofs.NumberPushLaws.{appended, appended_first}
+use Rattle.lezgauri.proofs.NumberPutLaws.{numbers_put, numbers_put_first}
+use Rattle.lezgauri_c.proofs.NumberMapLaws.{numbers_share}
 use Rattle.lezgauri.specs.Image.{Image}
 use Rattle.lezgauri.specs.Images.{segment_of, allocator_of, bytes_in, types_of, IsOpen}
 use Rattle.lezgauri_c.specs.declared.kept_types.KeptTypes.{KeptTypes}
-use Rattle.lezgauri_c.specs.Changes.{Calls, GivesPushed, TellsPushed, IsStillSound, StaysSound, StaysSoundFrom}
+use Rattle.lezgauri_c.specs.Changes.{Calls, GivesCount, TellsCount, IsStillSound, StaysSound, StaysSoundFrom}
 use Rattle.lezgauri_c.specs.Values.{table_in, OnSound}
-use Rattle.lezgauri_c.specs.ImageChanges.{Assigns, Appends, PushesItemBack, PushesItemFront, PushesItems, PopsItem, PopsItemFront, Puts, Removes, PutsContent, Shares, Clears, ShrinksBuffer}
+use Rattle.lezgauri_c.specs.ImageChanges.{Assigns, Appends, PushesItemBack, PushesItemFront, PushesItems, PopsItem, PopsItemFront, Puts, PutsEntries, Removes, PutsContent, Shares, Clears, ShrinksBuffer}
 
 -- ---- numbers share no object
 
@@ -101,13 +105,22 @@ module _ {R : Type 0} {old new : List ℕ} {types : KeptTypes} {status : ℕ} {t
       (subst (λ (b : List ℕ). IsReached b sound.picture (place_of to)) (sym is) reached))
 
 -- numbers for a place that isn't a vector of numbers
-pub tells_no_vector : {old new : List ℕ} {types : KeptTypes} {status pushed n : ℕ} {place : Place} {numbers : List ℤ} → GivesPushed old new types status pushed n (PushesItems place numbers)
+pub tells_no_vector : {old new : List ℕ} {types : KeptTypes} {status pushed n : ℕ} {place : Place} {numbers : List ℤ} → GivesCount old new types status pushed n (PushesItems place numbers)
     → OnSound old types (λ picture. ¬ HasNumbers picture.table place.type_id → (status ≡ 114) × (pushed ≡ 0) × (new ≡ old))
 tells_no_vector {status = status} {pushed = pushed} {n = n} {place = place} given sound same none =
     let on = given.on_image sound same in
     let there : ¬ HasNumbers (types_of on.opened) place.type_id = subst (λ t. ¬ HasNumbers t place.type_id) (sym on.is_open.table_is) none in
     let it = on.called.2.other there in
-    let told = subst (TellsPushed status pushed n) it.0 on.called.1 in (told.0, told.1, sym on.left_is ∙ ap (λ (i : Image Lodged). bytes_in i) it.1 ∙ on.opened_is)
+    let told = subst (TellsCount status pushed n) it.0 on.called.1 in (told.0, told.1, sym on.left_is ∙ ap (λ (i : Image Lodged). bytes_in i) it.1 ∙ on.opened_is)
+
+-- keys with numbers for a place that isn't a map of numbers
+pub tells_no_map : {old new : List ℕ} {types : KeptTypes} {status count n : ℕ} {place : Place} {entries : List Pair} → GivesCount old new types status count n (PutsEntries place entries)
+    → OnSound old types (λ picture. ¬ HasNumberValues picture.table place.type_id → (status ≡ 114) × (count ≡ 0) × (new ≡ old))
+tells_no_map {status = status} {count = count} {n = n} {place = place} given sound same none =
+    let on = given.on_image sound same in
+    let there : ¬ HasNumberValues (types_of on.opened) place.type_id = subst (λ t. ¬ HasNumberValues t place.type_id) (sym on.is_open.table_is) none in
+    let it = on.called.2.other there in
+    let told = subst (TellsCount status count n) it.0 on.called.1 in (told.0, told.1, sym on.left_is ∙ ap (λ (i : Image Lodged). bytes_in i) it.1 ∙ on.opened_is)
 
 module _ {A : Type 0} (opened left : Image A) (place : Place) (picture : Picture) (is_open : IsOpen opened picture) (reached : IsReached (bytes_in opened) picture (place_of place)) where
   abbrev Found : Value → Type 0
@@ -243,17 +256,17 @@ module _ {A : Type 0} (opened left : Image A) (place : Place) (picture : Picture
   numbers_added : (vs : Values) (numbers : List ℤ) → names_in (Seq vs) ≡ names_in (Seq (append vs (number_values numbers)))
   numbers_added vs numbers = names_seq vs ∙ sym (append_named vs (number_values numbers) (numbers_named numbers)) ∙ sym (names_seq (append vs (number_values numbers)))
 
-  pub push_numbers_stays : (numbers : List ℤ) (r : Result (Unit {0}) PushStopped) → PushesItems place numbers opened left r → Left
+  pub push_numbers_stays : (numbers : List ℤ) (r : Result (Unit {0}) StoppedAt) → PushesItems place numbers opened left r → Left
   push_numbers_stays numbers r it = by_form form refl
     where
-      vector : (U : ℕ) (vs : Values) (f : Found (Seq vs)) → HasItems (allocator_of opened) (segment_of opened) (place_of place) U vs f.blocks → form_at (types_of opened) U ≡ Some Form.i64 → (r : Result (Unit {0}) PushStopped)
+      vector : (U : ℕ) (vs : Values) (f : Found (Seq vs)) → HasItems (allocator_of opened) (segment_of opened) (place_of place) U vs f.blocks → form_at (types_of opened) U ≡ Some Form.i64 → (r : Result (Unit {0}) StoppedAt)
           → MatchResult r (λ _. PushesNumbers (allocator_of opened) (segment_of opened) (segment_of left) (place_of place) numbers)
           (StopsPushing (allocator_of opened) (segment_of opened) (segment_of left) (place_of place) numbers) → Left
       vector U vs f has number (Ok done) pushed =
           let a = appended (allocator_of opened) (segment_of opened) (segment_of left) (place_of place) numbers pushed U vs f.blocks has number in
           changed f (Seq (append vs (number_values numbers))) a.others (numbers_added vs numbers) a.changes
       vector U vs f has number (Err stopped) stops =
-          let first = take stopped.pushed numbers in
+          let first = take stopped.done numbers in
           let it = appended_first (allocator_of opened) (segment_of opened) (segment_of left) (place_of place) numbers stopped stops U vs f.blocks has number in
           let a = it.appends in
           changed f (Seq (append vs (number_values first))) a.others (numbers_added vs first)
@@ -346,6 +359,38 @@ module _ {A : Type 0} (opened left : Image A) (place : Place) (picture : Picture
       by_form (Some (Form.map U)) is =
           put U (subst (λ k. IsMapOf k U) (sym is) refl) (maps_found (map_held (bytes_in opened) (types_of opened) (place_of place) found.0 found.1.blocks U is found.1.stands.holds_it))
       by_form o is = image_same (it.other (ap has_keys is)).1
+
+  pub put_numbers_stays : (entries : List Pair) (r : Result (Unit {0}) StoppedAt) → PutsEntries place entries opened left r → Left
+  put_numbers_stays entries r it = by_form form refl
+    where
+      numbers : (U : ℕ) → IsMapOf form U → form_at (types_of opened) U ≡ Some Form.i64 → (keys : List ℤ) (vs : Values) (f : Found (Map keys vs)) → (r : Result (Unit {0}) StoppedAt)
+          → MatchResult r (λ _. PutsNumbers (allocator_of opened) (segment_of opened) (segment_of left) (place_of place) entries)
+          (StopsPutting (allocator_of opened) (segment_of opened) (segment_of left) (place_of place) entries) → Left
+      numbers U is number keys vs f (Ok done) puts =
+          let received = numbers_put (allocator_of opened) (segment_of opened) (segment_of left) (place_of place) entries puts U (keys, vs) f.blocks (record { map_is = is; number_is = number; stands = f.stands }) in
+          let after = with_numbers (keys, vs) entries in
+          changed f (Map after.0 after.1) received.others (numbers_share (bytes_in opened) (types_of opened) (place_of place) U keys vs f.blocks is number f.stands.holds_it entries) received.changes
+      numbers U is number keys vs f (Err stopped) stops =
+          let first = take stopped.done entries in
+          let it = numbers_put_first (allocator_of opened) (segment_of opened) (segment_of left) (place_of place) entries stopped stops U (keys, vs) f.blocks (record { map_is = is; number_is = number; stands = f.stands }) in
+          let received = it.receives in
+          let after = with_numbers (keys, vs) first in
+          changed f (Map after.0 after.1) received.others (numbers_share (bytes_in opened) (types_of opened) (place_of place) U keys vs f.blocks is number f.stands.holds_it first)
+          (subst (λ (b : List ℕ). ChangesPlace (bytes_in opened) b (types_of opened) (place_of place) (Map after.0 after.1) received.others received.spans f.blocks received.others) (sym it.same) received.changes)
+
+      put : (U : ℕ) → IsMapOf form U → ((has : HasNumberValues (types_of opened) place.type_id) → has.value ≡ U) → (keys : List ℤ) × (vs : Values) × (length keys ≡ count vs) × Found (Map keys vs)
+          → (o : Option Form) → form_at (types_of opened) U ≡ o → Left
+      put U is one f (Some Form.i64) number = numbers U is number f.0 f.1 f.3 r (it.puts (record { value = U; map_is = is; number_is = number }))
+      put U is one f o other = image_same (it.other (λ has. let same = one has in let number = has.number_is in cc)).1
+
+      by_form : (o : Option Form) → form ≡ o → Left
+      by_form (Some (Form.flat_map U)) is =
+          put U (subst (λ k. IsMapOf k U) (sym is) refl) (λ has. sym (subst (λ k. IsMapOf k has.value) is has.map_is))
+          (maps_found (flat_map_held (bytes_in opened) (types_of opened) (place_of place) found.0 found.1.blocks U is found.1.stands.holds_it)) (form_at (types_of opened) U) refl
+      by_form (Some (Form.map U)) is =
+          put U (subst (λ k. IsMapOf k U) (sym is) refl) (λ has. sym (subst (λ k. IsMapOf k has.value) is has.map_is))
+          (maps_found (map_held (bytes_in opened) (types_of opened) (place_of place) found.0 found.1.blocks U is found.1.stands.holds_it)) (form_at (types_of opened) U) refl
+      by_form o is = image_same (it.other (λ has. absurd (subst (λ k. IsMapOf k has.value) is has.map_is))).1
 
   pub remove_stays : (key : ℤ) (r : Bool) → Removes place key opened left r → Left
   remove_stays key r it = by_form form refl

@@ -1,8 +1,8 @@
 -- Calls from C that change the image in lent memory, by one call of `Image`.
 --     TellsDone, TellsFound   the status reports the result of a call
---     TellsPushed status pushed n returned
---                             the status and the caller's count report how many of n numbers a call
---                             appended, and why not all
+--     TellsCount status count n returned
+--                             the status and the caller's count report how many of n numbers or
+--                             entries a call did, and why not all
 --     IsOpenedOn lent types kept
 --                             the kept image is the lent memory, and is open if that is a sound
 --                             image whose types C keeps
@@ -12,9 +12,9 @@
 --     Calls old new types status tells claim
 --                             a sound image was opened with its types, which C keeps, for a call,
 --                             whose result is reported; other bytes may be refused
---     GivesPlace, GivesPushed, IsDone, IsFound, IsAnswered
+--     GivesPlace, GivesCount, IsDone, IsFound, IsAnswered
 --                             the same, for a call that returns a place or a code, how many numbers
---                             it appended, nothing or a code, whether something was there, and
+--                             or entries it did, nothing or a code, whether something was there, and
 --                             nothing
 --     IsStillSound old new    a sound image of the same size is left
 --     StaysSound old new types place
@@ -39,7 +39,7 @@ use Rattle.seg_raw.specs.declared.code.Code.{Code}
 use Rattle.lezgauri.specs.Place.{Place}
 use Rattle.lezgauri.specs.CellPlaces.{place_of}
 use Rattle.std_alloc.specs.declared.vec.lodged.Lodged.{Lodged}
-use Rattle.lezgauri.specs.PushStopped.{PushStopped}
+use Rattle.lezgauri.specs.StoppedAt.{StoppedAt}
 use Rattle.lezgauri.specs.Image.{Image}
 use Rattle.lezgauri.specs.Images.{segment_of, bytes_in, IsOpen}
 use Rattle.lezgauri_c.specs.declared.fault.Fault.{Fault}
@@ -59,10 +59,10 @@ abbrev pub TellsDone : ℕ → Result (Unit {0}) Code → Type 0
 TellsDone status (Ok _) = status ≡ 0
 TellsDone status (Err code) = status ≡ code_status code
 
-abbrev pub TellsPushed : ℕ → ℕ → ℕ → Result (Unit {0}) PushStopped → Type 0
-TellsPushed status pushed n (Ok _) = (status ≡ 0) × (pushed ≡ n)
-TellsPushed status pushed n (Err stopped) =
-    (status ≡ code_status stopped.code) × (pushed ≡ stopped.pushed)
+abbrev pub TellsCount : ℕ → ℕ → ℕ → Result (Unit {0}) StoppedAt → Type 0
+TellsCount status count n (Ok _) = (status ≡ 0) × (count ≡ n)
+TellsCount status count n (Err stopped) =
+    (status ≡ code_status stopped.code) × (count ≡ stopped.done)
 
 abbrev pub TellsFound : ℕ → Bool → Type 0
 TellsFound status true = status ≡ 0
@@ -102,10 +102,10 @@ abbrev pub GivesPlace : List ℕ → List ℕ → KeptTypes → ℕ → told.Pla
 GivesPlace old new types status before after claim =
     Calls old new types status (TellsPlace status before after) claim
 
-abbrev pub GivesPushed : List ℕ → List ℕ → KeptTypes → ℕ → ℕ → ℕ →
-    (Image Lodged → Image Lodged → Result (Unit {0}) PushStopped → Type 0) → Type 0
-GivesPushed old new types status pushed n claim =
-    Calls old new types status (TellsPushed status pushed n) claim
+abbrev pub GivesCount : List ℕ → List ℕ → KeptTypes → ℕ → ℕ → ℕ →
+    (Image Lodged → Image Lodged → Result (Unit {0}) StoppedAt → Type 0) → Type 0
+GivesCount old new types status count n claim =
+    Calls old new types status (TellsCount status count n) claim
 
 abbrev pub IsDone : List ℕ → List ℕ → KeptTypes → ℕ →
     (Image Lodged → Image Lodged → Result (Unit {0}) Code → Type 0) → Type 0

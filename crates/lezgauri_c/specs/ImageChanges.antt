@@ -4,7 +4,7 @@
 --     Constructs, FindsOrConstructs, DestroysNamed
 --     ConstructsUnique, FindsOrConstructsUnique, DestroysUnique
 --     Assigns, Appends, PushesItemBack, PushesItemFront, PushesItems, PopsItem, PopsItemFront
---     Puts, Removes, PutsContent, FreezesInto, Shares
+--     Puts, PutsEntries, Removes, PutsContent, FreezesInto, Shares
 --     ConstructsAnonymous, DestroysAnonymous, Clears, ShrinksBuffer
 use Rattle.std.specs.Prelude.{◌≡◌, ◌≢◌, ◌+◌, ◌-◌, ◌<◌, ◌≤◌, ◌^◌, ℕ, suc, ℤ, List, [], ◌∷◌, ◌++◌, length, take, Bool, true, false, Some, None, Result, Err, IsOk, IsTrue, IfOk, IsOkUnless, MatchResult, is_ok}
 use Rattle.std.specs.List.{AllByRecursion}
@@ -41,11 +41,13 @@ use Rattle.seg_manager.specs.NamedObjects.{found_as, IsMissing, IsCount, Refuses
 use Rattle.seg_manager.specs.NewNamed.{MakesNamed, FindsNoRoom}
 use Rattle.seg_manager.specs.LeavingNamed.{LosesNamed}
 use Rattle.lezgauri.specs.NumberPushes.{PushesNumbers, StopsPushing}
-use Rattle.lezgauri.specs.PushStopped.{PushStopped}
+use Rattle.lezgauri.specs.NumberPuts.{PutsNumbers, StopsPutting, none_done}
+use Rattle.lezgauri.specs.Pair.{Pair}
+use Rattle.lezgauri.specs.StoppedAt.{StoppedAt}
 use Rattle.lezgauri.specs.Image.{Image}
 use Rattle.lezgauri.specs.Images.{segment_of, allocator_of, bytes_in, types_of, IsOpen, ChangesBytes}
 use Rattle.lezgauri.specs.Owners.{PutsNew, OwnAndShared, AreShared, FreezesOwn}
-use Rattle.lezgauri.specs.Places.{found_position, object_type, StandsIn, WhereMap}
+use Rattle.lezgauri.specs.Places.{found_position, object_type, HasNumberValues, StandsIn, WhereMap}
 
 -- ---- named objects
 
@@ -192,7 +194,7 @@ pub record PushesItemFront {A : Type 0} (place : Place) (old new : Image A)
 
 -- numbers were appended to a vector of numbers, all or the first ones
 pub record PushesItems {A : Type 0} (place : Place) (numbers : List ℤ) (old new : Image A)
-    (result : Result (Unit {0}) PushStopped) : Type 0 where
+    (result : Result (Unit {0}) StoppedAt) : Type 0 where
   pub bytes : ChangesBytes old new
   pub pushed : HasNumbers (types_of old) place.type_id →
       MatchResult result
@@ -201,7 +203,7 @@ pub record PushesItems {A : Type 0} (place : Place) (numbers : List ℤ) (old ne
       (StopsPushing (allocator_of old) (segment_of old) (segment_of new) (place_of place)
       numbers)
   pub other : ¬ HasNumbers (types_of old) place.type_id →
-      (result ≡ Err (record { pushed = 0; code = code.OtherType })) × (new ≡ old)
+      (result ≡ Err (record { done = 0; code = code.OtherType })) × (new ≡ old)
 
 pub record PopsItem {A : Type 0} (place : Place) (old new : Image A)
     (result : Result (Unit {0}) Code) : Type 0 where
@@ -261,6 +263,18 @@ pub record Puts {A : Type 0} (map : Place) (key : ℤ) (old new : Image A)
   pub keeps : WhereMap (allocator_of old) (segment_of old) map (λ U keys vs blocks.
       KeepsTreePaths (form_at (types_of old) map.type_id) (bytes_in old) (bytes_in new)
       (types_of old) (place_of map))
+
+-- keys were put into a map of numbers, with their numbers, all or the first ones
+pub record PutsEntries {A : Type 0} (map : Place) (entries : List Pair) (old new : Image A)
+    (result : Result (Unit {0}) StoppedAt) : Type 0 where
+  pub bytes : ChangesBytes old new
+  pub puts : HasNumberValues (types_of old) map.type_id →
+      MatchResult result
+      (λ _. PutsNumbers (allocator_of old) (segment_of old) (segment_of new) (place_of map)
+      entries)
+      (StopsPutting (allocator_of old) (segment_of old) (segment_of new) (place_of map) entries)
+  pub other : ¬ HasNumberValues (types_of old) map.type_id →
+      (result ≡ none_done code.OtherType) × (new ≡ old)
 
 pub record Removes {A : Type 0} (map : Place) (key : ℤ) (old new : Image A)
     (result : Bool) : Type 0 where

@@ -5,7 +5,7 @@
 
 ghost use Rattle.std.specs.Prelude.{◌≡◌, ◌<◌, ◌≤◌, Some, None, IfOk, IfErr, OnErr};
 ghost use Rattle.lezgauri.specs.Images.{segment_of, bytes_in};
-ghost use Rattle.lezgauri_c.specs.Changes.{TellsDone, TellsFound, IsOpenedOn};
+ghost use Rattle.lezgauri_c.specs.Changes.{TellsCount, TellsDone, TellsFound, IsOpenedOn};
 ghost use Rattle.lezgauri_c.specs.KeptImages.{table_kept};
 ghost use Rattle.lezgauri_c.specs.Memory.{memory_of};
 ghost use Rattle.lezgauri_c.specs.Values.{table_in, IsUnopened, OnSound};
@@ -15,7 +15,7 @@ use crate::kept_types::KeptTypes;
 use crate::lent::Lent;
 use crate::run_in_place::window_of;
 use crate::status::{BAD_ARGUMENT, OK, code_status};
-use lezgauri::Code;
+use lezgauri::{Code, StoppedAt};
 use seg_raw::Fault;
 use std::alloc::Global;
 
@@ -95,6 +95,24 @@ pub(crate) fn done(returned: Result<(), Code>) -> u32
     match returned {
         Ok(()) => OK,
         Err(code) => code_status(code),
+    }
+}
+
+/// Gives the caller how many of the numbers or entries were done, and returns `OK`, or the status for the code of the first that wasn't.
+pub(crate) fn give_count(returned: Result<(), StoppedAt>, len: usize, count: &mut usize) -> u32
+    ensures told { TellsCount result count.new len returned }
+    ensures number { 0 < result → 110 < result }
+    ensures all { result ≡ 0 → count.new ≡ len }
+{
+    match returned {
+        Ok(()) => {
+            *count = len;
+            OK
+        }
+        Err(stopped) => {
+            *count = stopped.done;
+            code_status(stopped.code)
+        }
     }
 }
 

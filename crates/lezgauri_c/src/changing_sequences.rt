@@ -1,16 +1,15 @@
 ghost use Rattle.std.specs.Prelude.{◌≡◌, ◌<◌, ◌≤◌, length};
 ghost use Rattle.seg_seq.specs.Kinds.{HasNumbers};
-ghost use Rattle.lezgauri_c.specs.Changes.{place_at, type_number, GivesPlace, GivesPushed, IsDone, StaysSound, TellsPushed};
+ghost use Rattle.lezgauri_c.specs.Changes.{place_at, type_number, GivesPlace, GivesCount, IsDone, StaysSound};
 ghost use Rattle.lezgauri_c.specs.ImageChanges.{Assigns, Appends, PushesItemBack, PushesItemFront, PushesItems, PopsItem, PopsItemFront};
 ghost use Rattle.lezgauri_c.specs.Memory.{memory_of};
 ghost use Rattle.lezgauri_c.specs.Values.{table_in, OnSound};
 
-use crate::changing::{done, give, on_image, place_at};
+use crate::changing::{done, give, give_count, on_image, place_at};
 use crate::kept_types::KeptTypes;
 use crate::lent::Lent;
 use crate::place::Place;
-use crate::status::{OK, code_status};
-use lezgauri::{Image, PushStopped};
+use lezgauri::{Image, StoppedAt};
 use seg_value::Place as ValuePlace;
 use std::alloc::Global;
 use std_alloc::vec::Lodged;
@@ -92,7 +91,7 @@ pub extern "C" fn lezgauri_raw_push_numbers(
     numbers: &[i64],
     pushed: &mut usize,
 ) -> u32
-    ensures pushes { GivesPushed image.old.bytes image.new.bytes types.old result pushed.new
+    ensures pushes { GivesCount image.old.bytes image.new.bytes types.old result pushed.new
         (length numbers.now) (PushesItems (place_at at type_id) numbers.now) }
     ensures other { OnSound image.old.bytes types.old (λ picture.
         ¬ HasNumbers picture.table (type_number type_id) →
@@ -107,7 +106,7 @@ pub extern "C" fn lezgauri_raw_push_numbers(
     let vector = place_at(at, type_id);
     let returned =
         on_image!(alloc, image, types, opened => push_numbers(&mut opened.image, vector, numbers));
-    give_pushed(returned, numbers.len(), pushed)
+    give_count(returned, numbers.len(), pushed)
 }
 
 /// Adds numbers at the end of the vector of numbers at a place.
@@ -115,30 +114,12 @@ fn push_numbers(
     image: &mut Image<Lodged>,
     place: ValuePlace,
     numbers: &[i64],
-) -> Result<(), PushStopped>
+) -> Result<(), StoppedAt>
     ensures { PushesItems place numbers.now image.old image.new result }
 {
     match image.numbers(place) {
         Ok(vector) => image.push_numbers(vector, numbers),
-        Err(code) => Err(PushStopped { pushed: 0, code }),
-    }
-}
-
-/// Gives the caller how many of the numbers were added, and returns `OK`, or returns the status for the code of the first that wasn't.
-fn give_pushed(returned: Result<(), PushStopped>, len: usize, pushed: &mut usize) -> u32
-    ensures told { TellsPushed result pushed.new len returned }
-    ensures number { 0 < result → 110 < result }
-    ensures all { result ≡ 0 → pushed.new ≡ len }
-{
-    match returned {
-        Ok(()) => {
-            *pushed = len;
-            OK
-        }
-        Err(stopped) => {
-            *pushed = stopped.pushed;
-            code_status(stopped.code)
-        }
+        Err(code) => Err(StoppedAt { done: 0, code }),
     }
 }
 

@@ -1,7 +1,7 @@
 use Rattle.std.proofs.Common.{◌≡◌, length, sym, subst}
 use Rattle.lezgauri.specs.Place.{Place}
 use Rattle.lezgauri.specs.Images.{bytes_in}
-use Rattle.lezgauri_c.specs.Changes.{place_at, GivesPushed}
+use Rattle.lezgauri_c.specs.Changes.{place_at, GivesCount}
 use Rattle.lezgauri_c.specs.ImageChanges.{PushesItems}
 use Rattle.lezgauri_c.proofs.ChangeLaws.{calls, same_memory, same_types, opened_now}
 use Rattle.lezgauri_c.proofs.PlaceChangeLaws.{stays_sound, push_numbers_stays, tells_no_vector}
@@ -14,8 +14,8 @@ returns-clause-pushes c =
     let left = c.push_numbers-returned.new.image in
     let left_is : bytes_in left ≡ c.close_image.new.lent.bytes = sym c.close_image.ensures.bytes in
     let numbers = c.args.numbers.now in
-    subst (λ (p : Place). GivesPushed c.args.image.now.bytes c.close_image.new.lent.bytes c.args.types.now c.give_pushed.result c.give_pushed.new.pushed (length numbers) (PushesItems p numbers)) c.place_at-vector.ensures
-    (calls c.args.types.now opened left on.bytes left_is on.opened c.push_numbers-returned.result c.give_pushed.ensures.number c.give_pushed.ensures.told c.push_numbers-returned.ensures)
+    subst (λ (p : Place). GivesCount c.args.image.now.bytes c.close_image.new.lent.bytes c.args.types.now c.give_count.result c.give_count.new.count (length numbers) (PushesItems p numbers)) c.place_at-vector.ensures
+    (calls c.args.types.now opened left on.bytes left_is on.opened c.push_numbers-returned.result c.give_count.ensures.number c.give_count.ensures.told c.push_numbers-returned.ensures)
 
 pub returns-clause-other : goal.returns-clause-other
 returns-clause-other c = tells_no_vector (returns-clause-pushes c)
