@@ -26,7 +26,7 @@ impl fmt::Display for Error {
 
 impl std::error::Error for Error {}
 
-/// Where a call with several numbers or entries stopped. What was done before the one that was refused stays.
+/// How far a call with several numbers or entries came. What was done before the one that was refused stays.
 #[derive(Debug, Clone, Copy, PartialEq, Eq)]
 pub struct StoppedAt {
     /// How many numbers or entries were done.

@@ -5,7 +5,7 @@ use crate::tests::calls::Call;
 use crate::tests::image::is_told;
 use crate::tests::tiles::are_live;
 use crate::tests::verbs::Verb;
-use seg_image::{CheckedImage, Code, Fault, Image, ImageRead, Place, check};
+use seg_image::{CheckedImage, Code, Fault, Image, ImageRead, Pair, Place, check};
 use seg_value::{set_own, take_own};
 use std::alloc::Global;
 use support_data::{counter_saved, sharing};
@@ -55,6 +55,7 @@ fn change_containers(alloc: Global, image: &mut Image<Global>, call: &Call) -> O
         Verb::PopFront => done(image.pop_front(call.place)),
         Verb::ShrinkToFit => done(image.shrink_to_fit(call.place)),
         Verb::Put => place(image.put(call.place, call.long())),
+        Verb::PutNumbers => done(put_numbers(alloc, image, call)),
         Verb::Remove => flag(image.remove(call.place, call.long())),
         Verb::FirstInTurn => first_in_turn(image, call.place),
         Verb::NextInTurn => next_in_turn(image, call.place, call.long()),
@@ -146,15 +147,36 @@ fn push_number(image: &mut Image<Global>, call: &Call) -> Result<u32, Code> {
 /// Pushes the numbers of the call's text onto a vector.
 fn push_numbers(alloc: Global, image: &mut Image<Global>, call: &Call) -> Result<(), Code> {
     let vector = image.numbers(call.place)?;
+    image
+        .push_numbers(vector, &numbers_of(alloc, call)?)
+        .map_err(|stopped| stopped.code)
+}
+
+/// Puts the keys and numbers of the call's text into a map, each key before its number.
+fn put_numbers(alloc: Global, image: &mut Image<Global>, call: &Call) -> Result<(), Code> {
+    let numbers = numbers_of(alloc, call)?;
+    let mut entries = Vec::new(alloc);
+    for pair in numbers.as_slice().chunks_exact(2) {
+        let entry = Pair {
+            key: pair[0],
+            number: pair[1],
+        };
+        entries.push(entry).map_err(|_| Code::BadAlloc)?;
+    }
+    image
+        .put_numbers(call.place, &entries)
+        .map_err(|stopped| stopped.code)
+}
+
+/// The numbers of the call's text.
+fn numbers_of(alloc: Global, call: &Call) -> Result<Vec<i64>, Code> {
     let mut numbers = Vec::new(alloc);
     for word in call.text.split_whitespace() {
         numbers
             .push(word.parse().unwrap_or(0))
             .map_err(|_| Code::BadAlloc)?;
     }
-    image
-        .push_numbers(vector, &numbers)
-        .map_err(|stopped| stopped.code)
+    Ok(numbers)
 }
 
 /// The first key of a map. The segment remembers where it is.

@@ -359,6 +359,30 @@ push_numbers V: 1 2
 pair_bytes V => type
 pair_bytes A => type
 pair_bytes Z => type
+
+; several keys with their numbers by one call: a key that comes again keeps its place and gets the later number
+$ new 4096
+M = construct_unique t4
+put_numbers M: 3 6 -5 -10 4 0 3 7
+pair_bytes M: -5 -10 3 7 4 0
+put_numbers M:
+put_numbers M: 9 -9 -6 60
+pair_bytes M: -6 60 -5 -10 3 7 4 0 9 -9
+T = construct_unique t5
+A = put T 3
+store A 30
+put_numbers T: 5 50 3 31 -1 10
+get T 3 => A
+load A => 31
+B = get T 5
+load B => 50
+C = get T -1
+load C => 10
+V = construct_unique t2
+put_numbers V: 1 2 => type
+put_numbers A: 1 2 => type
+put_numbers Z: 1 2 => type
+fault: sound
 ";
 
 /// Frozen objects and the cells that share them.

@@ -63,6 +63,7 @@ pub(crate) enum Verb {
     PushNumber,
     PushNumbers,
     Put,
+    PutNumbers,
     PutContent,
     Remove,
     Reopen,
@@ -80,7 +81,7 @@ pub(crate) enum Verb {
 }
 
 // Each call with its word.
-static VERBS: [(&str, Verb); 74] = [
+static VERBS: [(&str, Verb); 75] = [
     ("all_memory_deallocated", Verb::AllMemoryDeallocated),
     ("append", Verb::Append),
     ("assign", Verb::Assign),
@@ -141,6 +142,7 @@ static VERBS: [(&str, Verb); 74] = [
     ("push_number", Verb::PushNumber),
     ("push_numbers", Verb::PushNumbers),
     ("put", Verb::Put),
+    ("put_numbers", Verb::PutNumbers),
     ("put_content", Verb::PutContent),
     ("remove", Verb::Remove),
     ("reopen", Verb::Reopen),
