@@ -1,5 +1,5 @@
 #!/usr/bin/env python3
-"""Compares single operations of clients, and of a host's own calls, with Boost.Interprocess and Lua.
+"""Compares single operations of clients, and of a host's own calls, with Boost.Interprocess, Lua and WebAssembly.
 
     operations.py SEGTOOL.. [--calls BENCH_CALLS..] [--time ROUNDS] [--only WORK,..] [--configs best+tree,seq+flat] [--no-count]
 
@@ -14,9 +14,13 @@ The workloads of hosts have no client. The program BENCH_CALLS, which build.py m
 and frees a block, or reads a map in order, by calls of the library. It runs for some passes and for twice as many, and the difference
 counts; so its loop counts too, like the peer's. Without --calls these workloads are left out.
 
-Needs valgrind, lua5.4, g++ and libboost-dev."""
+WebAssembly runs in wasm-interp, and is left out if that isn't installed. It has fewer turns than the others, since it is slow.
+
+Needs valgrind, lua5.4, g++ and libboost-dev, and for WebAssembly wabt."""
 import argparse
+import contextlib
 import os
+import shutil
 import subprocess
 import tempfile
 from dataclasses import dataclass
@@ -26,6 +30,9 @@ HERE = os.path.dirname(os.path.abspath(__file__))
 
 # a folder in memory, if the system has one, so that no disk takes time
 MEMORY = "/dev/shm" if os.path.isdir("/dev/shm") else None
+
+# the file that a run makes
+SAVED = "saved"
 
 # callgrind counts one instruction per byte for rep stosb and rep movsb, which glibc uses for large clears and copies
 TUNABLES = "glibc.cpu.x86_rep_stosb_threshold=1000000000:glibc.cpu.x86_rep_movsb_threshold=1000000000"
@@ -94,8 +101,17 @@ def instructions(words, flags=()):
         return int(totals[-1].split()[1])
 
 
+def remove_saved(words):
+    """Removes the image that a command has saved. A run that finds the same bytes there would compare them, and not write them."""
+    for word in words:
+        if os.path.basename(word) == SAVED:
+            with contextlib.suppress(FileNotFoundError):
+                os.remove(word)
+
+
 def seconds(words):
     """The processor time of a command. Other jobs disturb it less than the elapsed time."""
+    remove_saved(words)
     child = subprocess.Popen(words, stdout=subprocess.DEVNULL)
     _, status, used = os.wait4(child.pid, 0)
     child.returncode = os.waitstatus_to_exitcode(status)
@@ -137,7 +153,7 @@ class Bench:
         return made
 
     def command(self, image, client):
-        return [self.segtool, "run", image, f"{self.folder}/saved", client]
+        return [self.segtool, "run", image, f"{self.folder}/{SAVED}", client]
 
     def pair(self, work, config, turns, passes=1):
         """The commands that run a workload's client and its base."""
@@ -157,8 +173,12 @@ def row(name, config, ours, our_time, peer, peer_time):
 
 def count(pair, operations):
     """The instructions of an operation: those of a command without those of its base."""
-    whole, base = pair
-    return (instructions(whole) - instructions(base)) / operations
+    counts = []
+    for words in pair:
+        remove_saved(words)
+        counts.append(instructions(words))
+    whole, base = counts
+    return (whole - base) / operations
 
 
 def least(measures, rounds):
@@ -186,16 +206,42 @@ def rows(name, config, counts, times):
         row(name, config, ours, our_time, peer_count, peer_time)
 
 
+def wasm_loop(folder, name, turns):
+    """The command that runs a loop in WebAssembly."""
+    made = f"{folder}/{name}.{turns}.wasm"
+    if not os.path.exists(made):
+        text = open(f"{HERE}/{name}.wat").read().replace("@N", str(turns))
+        open(f"{made}.wat", "w").write(text)
+        run("wat2wasm", f"{made}.wat", "-o", made)
+    return ["wasm-interp", made, "--run-all-exports"]
+
+
 def compare_loop(benches, name, rounds, counts):
-    """Compares a step of a client's loop with the same loop in Lua."""
+    """Compares a step of a client's loop with the same loop in Lua, and in WebAssembly."""
 
-    def pairs(turns, base):
-        ours = [[it.command(it.image("seq+flat", 65536), it.client(name, n)) for n in (turns, base)] for it in benches]
-        return [*ours, [["lua5.4", f"{HERE}/{name}.lua", str(n)] for n in (turns, base)]]
+    def our_pairs(turns, base):
+        return [[it.command(it.image("seq+flat", 65536), it.client(name, n)) for n in (turns, base)] for it in benches]
 
-    steps, turns = LOOPS[name], 20000000
-    counted = [count(it, 200000 * steps) if counts else 0 for it in pairs(400000, 200000)]
-    rows(name, "a step", counted, time_pairs(pairs(turns, 1), turns * steps, rounds))
+    def lua_pair(turns, base):
+        return [["lua5.4", f"{HERE}/{name}.lua", str(n)] for n in (turns, base)]
+
+    def wasm_pair(turns, base):
+        return [wasm_loop(benches[0].folder, name, n) for n in (turns, base)]
+
+    def counted(pair):
+        return count(pair(400000, 200000), 200000 * steps) if counts else 0
+
+    steps, turns, wasm_turns = LOOPS[name], 20000000, 1000000
+    has_wasm = shutil.which("wasm-interp") is not None
+    wasm_timers = [partial(seconds, command) for command in wasm_pair(wasm_turns, 1)] if has_wasm else []
+    ours = [count(pair, 200000 * steps) if counts else 0 for pair in our_pairs(400000, 200000)]
+    times = time_pairs([*our_pairs(turns, 1), lua_pair(turns, 1)], turns * steps, rounds, wasm_timers)
+    ends = len(benches) + 1
+    rows(name, "Lua", [*ours, counted(lua_pair)], times[:ends])
+    if has_wasm:
+        whole, base = times[ends:]
+        wasm_time = (whole - base) / (wasm_turns * steps) * 1e9
+        rows(name, "Wasm", [*ours, counted(wasm_pair)], [*times[: ends - 1], wasm_time])
 
 
 def count_beside(pairs, operations, other, others, counts):

@@ -29,7 +29,7 @@ WIDTH, LEFT, RIGHT, TOP, LANE = 880, 280, 730, 112, 12
 INSTRUCTIONS, TIMES = 818, 864
 
 # The ends of the scale, as powers of two.
-LEAST, MOST = -4, 3
+LEAST, MOST = -5, 3
 
 END, MIDDLE, BOLD = ' text-anchor="end"', ' text-anchor="middle"', ' font-weight="600"'
 

@@ -1,5 +1,6 @@
 /* The works of table.h with the calls of lezgauri.h, in place on a mapped file: a map as a tree, and a flat one.
  * cc -O2 -I../crates/lezgauri_c/include table.c -o table liblezgauri.a */
+#include "pass.h"
 #include "table.h"
 
 #include <lezgauri.h>
@@ -138,85 +139,18 @@ static void check(void)
     succeed(lezgauri_check(memory, memory_len, &fault));
 }
 
-/* One pass over what a check has to read, without any test but what leads to the next byte: the header of each block in order of
- * positions; then each entry of the map in order of the keys, with the header of its block. docs/FORMATS.md has the positions. */
-enum { UNIT = 16, HEAP = 704, ALLOCATED_BIT = 31, TREE_FIELDS = 16, RIGHT = 4, NULL_DISTANCE = 1 };
-
-static uint32_t word_at(size_t at)
-{
-    uint32_t word;
-    memcpy(&word, memory + at, sizeof word);
-    return word;
-}
-
-static uint64_t number_at(size_t at)
-{
-    uint64_t number;
-    memcpy(&number, memory + at, sizeof number);
-    return number;
-}
-
-/* The sum of the words of a block's header. */
-static uint64_t header_before(size_t payload)
-{
-    return number_at(payload - UNIT) + number_at(payload - UNIT / 2);
-}
-
-static size_t target_of(size_t pointer)
-{
-    return (size_t)((int64_t)pointer + (int32_t)word_at(pointer));
-}
-
-/* The sums of the numbers that were read, so that the compiler leaves none out. */
-static uint64_t headers_read, keys_read, values_read;
-
-static void read_headers(void)
-{
-    for (size_t at = HEAP; at < memory_len;) {
-        headers_read += header_before(at + UNIT);
-        at += UNIT * (size_t)(word_at(at) & ~(1u << ALLOCATED_BIT));
-    }
-}
-
-static void read_entry(size_t at)
-{
-    keys_read += number_at(at);
-    values_read += number_at(at + KEY);
-}
-
-static void read_tree(size_t pointer)
-{
-    if (word_at(pointer) == NULL_DISTANCE) {
-        return;
-    }
-    size_t node = target_of(pointer);
-    headers_read += header_before(node);
-    read_tree(node);
-    read_entry(node + TREE_FIELDS);
-    read_tree(node + RIGHT);
-}
-
-static void read_buffer(size_t cell)
-{
-    size_t buffer = target_of(cell), count = word_at(cell + sizeof(uint32_t));
-    headers_read += header_before(buffer);
-    for (size_t i = 0; i < count; i++) {
-        read_entry(buffer + (KEY + VALUE) * i);
-    }
-}
-
 static int64_t pass_tree(void)
 {
-    read_headers();
-    read_tree(map.at);
+    read_headers(memory, memory_len);
+    read_tree(memory, map.at);
     need(headers_read != 0 && keys_read != 0, "headers and keys");
     return (int64_t)values_read;
 }
 
 static int64_t pass_flat(void)
 {
-    read_headers();
-    read_buffer(map.at);
+    read_headers(memory, memory_len);
+    read_buffer(memory, map.at);
     need(headers_read != 0 && keys_read != 0, "headers and keys");
     return (int64_t)values_read;
 }
