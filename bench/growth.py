@@ -84,8 +84,8 @@ WORKS = [
     Work("object, new and drop", "blocks", SEQ, "new_drop", "block_loop", 1000),
     Work("with gaps, new and drop", "gaps", BEST, "new_drop", "block_loop", 1000),
     Work("with gaps, new and drop", "gaps", SEQ, "new_drop", "block_loop", 1000),
-    Work("with gaps, new and drop of 128 bytes", "gaps", BEST, "new_drop_large", "block_loop", 1000),
-    Work("with gaps, new and drop of 128 bytes", "gaps", SEQ, "new_drop_large", "block_loop", 10),
+    Work("with gaps, a large object", "gaps", BEST, "new_drop_large", "block_loop", 1000),
+    Work("with gaps, a large object", "gaps", SEQ, "new_drop_large", "block_loop", 10),
     Work("with gaps, free a block", "gaps", BEST, "free", "free_find", 1000),
     Work("with gaps, free a block", "gaps", SEQ, "free", "free_find", 10),
     Work("segment, grow", "blocks", BEST, "grow", None, 1),
@@ -182,6 +182,9 @@ class Bench:
 
 
 def shown(number):
+    """A number with at least three digits; M is a million."""
+    if number >= 1e6:
+        return f"{number / 1e6:.3g} M" if number < 1e9 else f"{number / 1e6:,.0f} M"
     return f"{number:,.0f}" if number >= 100 else f"{number:.3g}"
 
 

@@ -37,7 +37,9 @@ class Plot:
 
 
 def number(text):
-    return float(text.replace(",", ""))
+    """A number of the table: M is a million."""
+    digits, _, million = text.replace(",", "").partition(" ")
+    return float(digits) * (1e6 if million else 1)
 
 
 def read_plots(page):
@@ -117,9 +119,9 @@ def legend():
     for library, name in enumerate(LIBRARIES):
         parts += [box(f"bar{library}", x, 51, 26, 3), f'<circle class="bar{library}" cx="{x + 13}" cy="52.5" r="3.5"/>']
         parts.append(write("ink", x + 34, 57, name, 13))
-        x += 7 * len(name) + 70
-    words = "Instructions of one operation, by how many keys, nodes or blocks there are; both on a log scale"
-    return [*parts, write("quiet", x, 57, words, 12)]
+        x += 7 * len(name) + 60
+    words = "Instructions of one operation by the number of keys, nodes or blocks; log scales"
+    return [*parts, write("quiet", x, 57, words, 11)]
 
 
 def picture(page):

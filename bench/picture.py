@@ -174,7 +174,7 @@ def head(title):
     """The title, and what a bar, a tick, a side and a column mean."""
     y, one = 58, place(1)
     return [
-        write("ink", 16, 32, title, 19, BOLD),
+        write("ink", 16, 32, title, 17, BOLD),
         box("quiet", 16, y - 8, 26, 8, 1.5),
         write("quiet", 50, y, "Instructions of one operation: Lezgauri's divided by those of the other library, on a log scale", 13),
         tick(29, y + 9, 12),

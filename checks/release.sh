@@ -106,6 +106,7 @@ check changing checks/changing.py
 check texts checks/texts.py
 check english checks/english.py
 check picture bench/picture.py --check
+check growth_picture bench/growth_picture.py --check
 check boost checks/boost.sh "$(count 10000 100)"
 check dumps checks/dumps.py crates/segtool/out/segtool --count "$(count 10000 100)"
 check programs checks/programs.py random --count "$(count 10000 100)"
