@@ -19,8 +19,8 @@ enum { MOST_CLIENT = 1 << 16, MOST_OUTPUT = 256, MOST_ROUNDS = 999 };
 /* The room after an image, into which it can grow. */
 enum { EXTRA = 4096 };
 
-/* The unit, the position of the length in an image, the length of a cell, and the type of the object. */
-enum { UNIT = 16, LENGTH = 12, CELL = 8, OBJECT = 1 };
+/* The unit, positions in an image, the length of a cell, and the type of the object. */
+enum { UNIT = 16, LENGTH = 12, ALLOCATOR = 16, FREE = 24, CELL = 8, OBJECT = 1 };
 
 static uint8_t *memory;
 static size_t len;
@@ -138,10 +138,25 @@ static void read_blocks(void)
     }
 }
 
+/* Reads the free blocks of the subtree to which a pointer refers, by size. */
+static void read_free(size_t pointer)
+{
+    if (word_at(memory, pointer) == PASS_NULL_DISTANCE) {
+        return;
+    }
+    size_t block = target_of(memory, pointer);
+    read_header(memory, block);
+    read_free(block);
+    read_free(block + PASS_RIGHT);
+}
+
 static void pass(const char *object)
 {
     lezgauri_place place;
     read_headers(memory, len);
+    if (word_at(memory, ALLOCATOR) == LEZGAURI_BEST_FIT) {
+        read_free(FREE);
+    }
     if (strcmp(object, "map") == 0) {
         succeed(lezgauri_find(segment, "m", OBJECT, &place));
         read_tree(memory, place.at);
