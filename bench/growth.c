@@ -4,7 +4,8 @@
  *   growth call FILE CALL                        makes a call: `grow`, `shrink`, or `check`
  *   growth time FILE OBJECT ROUNDS               prints the nanoseconds of a check and of one pass, in turn: the least and the middle
  * A CLIENT is the file of a text. It prints something only if it fails. Under callgrind (--instr-atstart=no) only the run of the
- * client, or the call, is counted. `build` alone writes the file. OBJECT is what the image has: `map`, `list`, `flat_map`, `blocks` or `gaps`.
+ * client, or the call, is counted. `build` alone writes the file. OBJECT is what the image has: `map`, `flat_map`, `list`, or arrays
+ * that own numbers.
  * cc -O2 -I../crates/lezgauri_c/include growth.c -o growth liblezgauri.a */
 #include "measure.h"
 #include "pass.h"

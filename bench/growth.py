@@ -113,7 +113,7 @@ class Bench:
     """The programs, and the clients and the structures of one size in a folder."""
 
     def __init__(self, library, folder):
-        self.folder, self.ours, self.peer, self.bases = folder, f"{folder}/ours", f"{folder}/peer", {}
+        self.folder, self.ours, self.peer = folder, f"{folder}/ours", f"{folder}/peer"
         include = f"-I{HERE}/../crates/lezgauri_c/include"
         run("cc", "-O2", include, f"{HERE}/growth.c", "-o", self.ours, library, "-Wl,-z,now")
         run("g++", "-O2", "-std=c++17", f"{HERE}/growth_peer.cpp", "-o", self.peer, "-lpthread", "-lrt", "-Wl,-z,now")
@@ -168,7 +168,8 @@ class Bench:
             stride, first = 2 * stride, FIRST_NAME + (work.name == "name_construct")
         elif work.name == "free":
             stride, first = min(size, MOST_ITEMS) // each // 2 * 2, 1
-        return {"turns": turns, "first": int(first), "stride": stride, "arrays": arrays(size), "step": arrays(size) // visited, "each": each}
+        step = arrays(size) // visited
+        return {"turns": turns, "first": int(first), "stride": stride, "arrays": arrays(size), "step": step, "each": each}
 
     def run(self, name, values):
         client = self.client(name, **values)
