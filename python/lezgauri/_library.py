@@ -51,6 +51,12 @@ class CEntry(ctypes.Structure):
     _fields_ = [("key", c_int64), ("value", CPlace)]
 
 
+class CPair(ctypes.Structure):
+    """lezgauri_pair"""
+
+    _fields_ = [("key", c_int64), ("number", c_int64)]
+
+
 class CNamed(ctypes.Structure):
     """lezgauri_named"""
 
@@ -137,7 +143,7 @@ CALLS = {
     "lezgauri_append": _OF_BYTES,
     "lezgauri_push_back": _TO_PLACE,
     "lezgauri_push_numbers": (c_uint32, (*_AT, POINTER(c_int64), c_size_t, POINTER(c_size_t))),
-    "lezgauri_put_numbers": (c_uint32, (*_AT, POINTER(c_int64), c_size_t, POINTER(c_size_t))),
+    "lezgauri_put_numbers": (c_uint32, (*_AT, POINTER(CPair), c_size_t, POINTER(c_size_t))),
     "lezgauri_push_front": _TO_PLACE,
     "lezgauri_pop_back": _ON_PLACE,
     "lezgauri_pop_front": _ON_PLACE,

@@ -11,7 +11,7 @@ from typing import TYPE_CHECKING, Any, Callable, Dict, Iterable, Iterator, List 
 from ._buffers import Buffer, View
 from ._errors import Absent, BadAlloc, BadArgument, Frozen, NoValue, OutOfRange
 from ._handles import Closeable, handle_of
-from ._library import CBytes, CEntry, CPlace, library, refuse
+from ._library import CBytes, CEntry, CPair, CPlace, library, refuse
 from .types import Kind, Type
 
 if TYPE_CHECKING:
@@ -158,8 +158,9 @@ class Value:
         """Whether the values in a container are numbers."""
         return self.segment._type(self.type.components[0]).kind == Kind.I64
 
-    def _add_numbers(self, call: Callable[..., int], numbers: Iterator[int], each: int) -> None:
-        """Adds items of `each` numbers, many by one call. If something isn't a number, the items before it are added."""
+    def _add_numbers(self, call: Callable[..., int], numbers: Iterator[int], kind: Any) -> None:
+        """Adds items, which are of this kind in C and consist of numbers, many by one call. If something isn't a number, the items before
+        it are added."""
         added = 0
         is_more = True
         while is_more:
@@ -167,20 +168,20 @@ class Value:
             try:
                 batch.extend(itertools.islice(numbers, _NUMBERS_AT_ONCE))
             finally:
-                added += self._add_batch(call, batch, len(batch) // each, added)
+                whole = len(batch) * batch.itemsize // ctypes.sizeof(kind)
+                added += self._add_batch(call, (kind * whole).from_buffer(batch), added)
             is_more = len(batch) == _NUMBERS_AT_ONCE
 
-    def _add_batch(self, call: Callable[..., int], numbers: "array.array[int]", count: int, before: int) -> int:
-        """Adds so many items by one call, after those that were added before. Returns how many it added."""
-        if count == 0:
-            return 0
+    def _add_batch(self, call: Callable[..., int], items: "ctypes.Array[Any]", before: int) -> int:
+        """Adds items by one call, after those that were added before. Returns how many it added."""
         added = c_size_t()
-        try:
-            self._change(call, (c_int64 * len(numbers)).from_buffer(numbers), count, byref(added))
-        except BadAlloc as error:
-            error.added = before + added.value
-            raise
-        return count
+        if len(items) > 0:
+            try:
+                self._change(call, items, len(items), byref(added))
+            except BadAlloc as error:
+                error.added = before + added.value
+                raise
+        return added.value
 
 
 def _add(add: Callable[[], Value], value: Any, undo: Callable[[], None]) -> None:
@@ -385,7 +386,7 @@ class Vector(_Growing):
             super().extend(values)
             return
         with Kept() as kept:
-            self._add_numbers(library().lezgauri_push_numbers, map(_as_number, plain(values, kept)), 1)
+            self._add_numbers(library().lezgauri_push_numbers, map(_as_number, plain(values, kept)), c_int64)
 
     def __iter__(self) -> Iterator[Any]:
         # one call for all numbers
@@ -672,7 +673,7 @@ class Map(_Sized, MutableMapping):  # type: ignore[type-arg]
             pairs = plain(other, kept)
             pairs = itertools.chain(dict(pairs).items() if hasattr(pairs, "keys") else pairs, more.items())
             numbers = (_as_number(number) for key, value in pairs for number in (key, value))
-            self._add_numbers(library().lezgauri_put_numbers, numbers, 2)
+            self._add_numbers(library().lezgauri_put_numbers, numbers, CPair)
 
     def setdefault(self, key: int, default: Any = _NONE) -> Any:
         """The value of a key. A missing key is added with this value, or with the default of its type."""

@@ -164,6 +164,7 @@ class HeaderTest(Case):
         "uint32_t *": ctypes.POINTER(ctypes.c_uint32), "int64_t *": ctypes.POINTER(ctypes.c_int64),
         "lezgauri_place": _library.CPlace, "lezgauri_place *": ctypes.POINTER(_library.CPlace),
         "lezgauri_named *": ctypes.POINTER(_library.CNamed), "lezgauri_entry *": ctypes.POINTER(_library.CEntry),
+        "lezgauri_pair *": ctypes.POINTER(_library.CPair),
     }
 
     def declared(self, text):
